@@ -1,0 +1,6 @@
+pub mod Faults
+pub mod Files
+pub mod Written
+pub mod Calls
+pub mod NamedFiles
+pub mod MemWords

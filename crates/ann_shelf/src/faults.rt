@@ -1,0 +1,25 @@
+// Counts of faults and of want of memory.
+ghost use Rattle.std.specs.Prelude.{◌≡◌, ◌≤◌};
+ghost use Rattle.ann_shelf.specs.Faults.{Rose};
+
+use crate::Slip;
+
+// Counts a fault. The count stays at the last value of u64.
+pub(crate) fn failed(count: &mut u64) -> Slip
+    ensures slip { result ≡ Slip.Failed }
+    ensures rose { Rose count.old count.new }
+    ensures grew { count.old ≤ count.new }
+{
+    *count = count.saturating_add(1);
+    Slip::Failed
+}
+
+// Counts a want of memory. The count stays at the last value of u64.
+pub(crate) fn wanted(count: &mut u64) -> Slip
+    ensures slip { result ≡ Slip.NoMemory }
+    ensures rose { Rose count.old count.new }
+    ensures grew { count.old ≤ count.new }
+{
+    *count = count.saturating_add(1);
+    Slip::NoMemory
+}

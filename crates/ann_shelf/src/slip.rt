@@ -1,0 +1,46 @@
+//! What a call of the outside may answer in place of `Ok`, and what limits speak of.
+ghost use Rattle.std.specs.Prelude.{◌≡◌};
+
+use std::alloc::{AllocError, AllocFailed};
+
+/// There was no memory. It is the one answer that may always come.
+#[derive(Clone, Copy, Debug, PartialEq, Eq)]
+pub struct NoMemory;
+
+impl From<AllocError> for NoMemory {
+    fn from(_error: AllocError) -> NoMemory {
+        NoMemory
+    }
+}
+
+impl<T: Drop> From<AllocFailed<T>> for NoMemory {
+    fn from(_error: AllocFailed<T>) -> NoMemory {
+        NoMemory
+    }
+}
+
+/// What a call of a shelf or an output may answer in place of `Ok`.
+#[derive(Clone, Copy, Debug, PartialEq, Eq)]
+pub enum Slip {
+    /// The call failed; the object's count of faults rose, or stands at its last value.
+    Failed,
+    /// There was no memory.
+    NoMemory,
+}
+
+/// What a limit speaks of. It stands here since the readers of points and of indexes and the program all answer it.
+#[derive(Clone, Copy, Debug, PartialEq, Eq)]
+pub enum Quantity {
+    /// Points or queries.
+    Count,
+    /// Numbers of a point.
+    Dim,
+    /// Ids of a row.
+    Degree,
+    /// Numbers of all points together.
+    Cells,
+    /// 32-bit words of all rows together, each with one word for its length.
+    Words,
+    /// Answers of all queries together.
+    Answers,
+}
