@@ -1,0 +1,6 @@
+pub mod Pieces
+pub mod RowLaws
+pub mod Spelled
+pub mod Texts
+pub mod Verdicts
+pub mod Writes
