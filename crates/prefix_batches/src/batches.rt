@@ -1,0 +1,163 @@
+//! The bounds of batches, one after another.
+ghost use Rattle.std.specs.Prelude.{◌≡◌, ◌+◌, ◌<◌, ◌≤◌, ℕ, max, IsSome, IsNone, IfSome, ◌↔◌};
+ghost use Rattle.ann_defs.specs.BatchInsert.{bound_at, total_of, default_cap};
+
+use std::marker::Model;
+
+/// The batches of `n` points, given one after another.
+///
+/// Each stands for a part of the insertion order, by its places: from the lower bound on, the upper one excluded. The
+/// bounds are 0, 1, and then each time the last one and as much again, but at most `cap` more and never more than `n`:
+/// the prefix doubling of ParlayANN's batch insertion. A contract sees `n`, `cap` and how many batches were given
+/// already. It holds five numbers and no other memory.
+#[derive(Drop)]
+pub struct Batches {
+    n: u32,
+    cap: u32,
+    total: u32,
+    done: u32,
+    reached: u32,
+}
+
+impl Model for Batches {
+    ghost use Rattle.std.specs.Prelude.{◌≡◌, ◌≤◌};
+    ghost use Rattle.ann_defs.specs.BatchInsert.{bound_at, total_of};
+    ghost use Rattle.prefix_batches.specs.Progress.{Progress};
+
+    ghost Value = { Progress };
+
+    ghost view = { λ b. record { n = b.n; cap = b.cap; done = b.done } };
+
+    ghost invariant = { λ b. (1 ≤ b.n) × (b.n ≤ 4194304) × (1 ≤ b.cap) × (b.cap ≤ 4194304)
+        × (b.total ≡ total_of b.n b.cap) × (b.done ≤ b.total) × (b.reached ≡ bound_at b.n b.cap b.done) };
+}
+
+impl Batches {
+    /// The batches of `n` points of which none holds more than `cap`, before the first is given.
+    ///
+    /// Takes as many steps as there are batches.
+    pub fn new(n: u32, cap: u32) -> Batches
+        requires points { (1 ≤ n) × (n ≤ 4194304) }
+        requires cap { (1 ≤ cap) × (cap ≤ 4194304) }
+        ensures { result ≡ record { n = n; cap = cap; done = 0 } }
+    {
+        let total = count_batches(n, cap);
+        Batches {
+            n,
+            cap,
+            total,
+            done: 0,
+            reached: 0,
+        }
+    }
+
+    /// The bounds of the next batch, or none where all points are in a batch already.
+    pub fn next(&mut self) -> Option<(u32, u32)>
+        ensures counted { IsSome result ↔ (self.old.done < total_of self.old.n self.old.cap) }
+        ensures ended { IsNone result ↔ (bound_at self.old.n self.old.cap self.old.done ≡ self.old.n) }
+        ensures bounds { IfSome result (λ b. b ≡ (bound_at self.old.n self.old.cap self.old.done, bound_at self.old.n self.old.cap (self.old.done + 1))) }
+        ensures some { IfSome result (λ b. (b.0 < b.1) × (b.1 ≤ self.old.n)) }
+        ensures given { IfSome result (λ _. self.new ≡ record self.old { done = self.old.done + 1 }) }
+        ensures same { IsNone result → self.new ≡ self.old }
+    {
+        if self.reached == self.n {
+            return None;
+        }
+        let from = self.reached;
+        let to = bound_after(self.n, self.cap, from);
+        self.done += 1;
+        self.reached = to;
+        Some((from, to))
+    }
+
+    /// How many batches there are, both given and still to come.
+    pub fn total(&self) -> u32
+        ensures value { result ≡ total_of self.now.n self.now.cap }
+        ensures some { 1 ≤ result }
+        ensures bound { result ≤ self.now.n }
+        ensures done { self.now.done ≤ result }
+    {
+        self.total
+    }
+}
+
+// The bound that follows a bound below n.
+fn bound_after(n: u32, cap: u32, bound: u32) -> u32
+    requires points { (1 ≤ n) × (n ≤ 4194304) }
+    requires cap { (1 ≤ cap) × (cap ≤ 4194304) }
+    requires bound { bound < n }
+    ensures next { (k : ℕ) → bound ≡ bound_at n cap k → result ≡ bound_at n cap (k + 1) }
+    ensures rises { bound < result }
+    ensures within { result ≤ n }
+{
+    if bound == 0 {
+        return 1;
+    }
+    n.min(bound + bound.min(cap))
+}
+
+// How many batches there are.
+fn count_batches(n: u32, cap: u32) -> u32
+    requires points { (1 ≤ n) × (n ≤ 4194304) }
+    requires cap { (1 ≤ cap) × (cap ≤ 4194304) }
+    ensures { result ≡ total_of n cap }
+{
+    let mut count = 0;
+    let mut reached = 0;
+    while reached < n {
+        reached = bound_after(n, cap, reached);
+        count += 1;
+    }
+    count
+}
+
+/// The cap where none is set: a fiftieth of the points, rounded up, and at least 1.
+pub fn default_cap(n: u32) -> u32
+    ensures value { result ≡ default_cap n }
+    ensures some { 1 ≤ result }
+    ensures bound { result ≤ max 1 n }
+{
+    n.div_ceil(50).max(1)
+}
+
+#[cfg(test)]
+mod tests {
+    use super::*;
+
+    #[test]
+    fn ten_points_at_cap_three_come_in_five_batches(rt: HostRuntime) {
+        let mut batches = Batches::new(10, 3);
+        assert_eq!(rt; batches.total(), 5);
+        for bounds in [(0, 1), (1, 2), (2, 4), (4, 7), (7, 10)] {
+            assert_eq!(rt; batches.next(), Some(bounds));
+        }
+        assert_eq!(rt; batches.next(), None);
+        assert_eq!(rt; batches.next(), None);
+        assert_eq!(rt; batches.total(), 5);
+    }
+
+    #[test]
+    fn one_point_is_one_batch(rt: HostRuntime) {
+        let mut batches = Batches::new(1, 4194304);
+        assert_eq!(rt; batches.next(), Some((0, 1)));
+        assert_eq!(rt; batches.next(), None);
+        assert_eq!(rt; batches.total(), 1);
+    }
+
+    #[test]
+    fn at_cap_one_each_point_is_a_batch(rt: HostRuntime) {
+        let mut batches = Batches::new(4, 1);
+        assert_eq!(rt; batches.total(), 4);
+        for bounds in [(0, 1), (1, 2), (2, 3), (3, 4)] {
+            assert_eq!(rt; batches.next(), Some(bounds));
+        }
+        assert_eq!(rt; batches.next(), None);
+    }
+
+    #[test]
+    fn the_default_cap_is_a_fiftieth(rt: HostRuntime) {
+        for (n, cap) in [(1, 1), (50, 1), (51, 2), (1000, 20), (4194304, 83887)] {
+            assert_eq!(rt; default_cap(n), cap, "of {n} points");
+        }
+    }
+}
