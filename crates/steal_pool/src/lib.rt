@@ -1,0 +1,23 @@
+//! Rounds of tasks, run by one worker or by many.
+//!
+//! A round is a list of tasks, each with a block of words that it wants. A pool runs the tasks with the scratches
+//! of its workers, and gives the blocks in the order of the tasks: the same blocks, whichever pool runs them.
+//!
+//! `Work` says what a round computes, `Post` is a worker's place with its scratch, `Rounds` is a pool, and `Blocks`
+//! is what a round gives. `SerialRounds` runs a round in one loop.
+#![tactic(auto)]
+
+mod blocks;
+mod post;
+mod rounds;
+mod serial;
+mod share;
+#[cfg(test)]
+mod tests;
+mod work;
+
+pub use blocks::Blocks;
+pub use post::Post;
+pub use rounds::{Rounds, Way};
+pub use serial::SerialRounds;
+pub use work::Work;

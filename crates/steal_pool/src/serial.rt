@@ -1,0 +1,51 @@
+//! One worker, one loop.
+ghost use Rattle.std.specs.Prelude.{◌≡◌, length, map, All, IfOk, ◌<◌, ◌≤◌};
+ghost use Rattle.std.proofs.Common.{arith};
+
+use crate::blocks::blanks;
+use crate::rounds::{Rounds, Way};
+use crate::share::run_share;
+use crate::work::Work;
+use ann_shelf::{Gate, NoMemory};
+use std::alloc::Global;
+
+/// One worker, which runs the tasks in their order in the caller's thread.
+#[derive(Drop)]
+pub struct SerialRounds;
+
+impl SerialRounds {
+    /// The pool of one worker. Takes no memory.
+    pub fn new() -> SerialRounds {
+        SerialRounds
+    }
+}
+
+impl Rounds for SerialRounds {
+    ghost count = { λ _. 1 };
+
+    fn workers(&self) -> u32 {
+        1
+    }
+
+    fn way(&self) -> Way {
+        Way::Serial
+    }
+
+    ghost few = { λ _. Prim.omega arith };
+}
+
+// Runs all tasks in their order.
+pub(crate) fn run_all<W: Work, G: Gate + Sync>(
+    alloc: Global,
+    work: &W,
+    scratch: &mut W::Scratch,
+    gate: &G,
+) -> Result<Vec<Vec<u32>>, NoMemory>
+    requires { W.serves work.now scratch.old }
+    ensures blocks { IfOk result (λ v. map (λ y. y.items) v.items ≡ W.want work.now) }
+    ensures serves { W.serves work.now scratch.new }
+{
+    let mut blocks = blanks(alloc, work.tasks(), work.width() as usize)?;
+    run_share(work, scratch, 0, 0, blocks.as_mut_slice(), gate);
+    Ok(blocks)
+}
