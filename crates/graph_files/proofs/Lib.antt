@@ -1,0 +1,10 @@
+pub mod Parts
+pub mod BlockRows
+pub mod Finding
+pub mod LayerLists
+pub mod Totals
+pub mod LayerRowFacts
+pub mod FlatIndex
+pub mod Grown
+pub mod IndexBytes
+pub mod Examples
