@@ -1,0 +1,4 @@
+pub mod Keeping
+pub mod Sorting
+pub mod Laws
+pub mod Worked

@@ -1,0 +1,14 @@
+//! RobustPrune: which of its candidates become the out-neighbours of a point.
+//!
+//! DiskANN, Algorithm 2 (Subramanya and others, NeurIPS 2019): take the nearest candidate, remove those that it covers,
+//! and go on with the rest until the row is full. With a factor of 1 it is also the neighbour selection heuristic of
+//! HNSW, Algorithm 4. `prune` works in the caller's memory: it takes none, refuses nothing, and its result depends on
+//! the set of candidates alone.
+#![tactic(auto)]
+
+mod pruning;
+#[cfg(test)]
+mod tests;
+
+pub use ann_defs::Alpha;
+pub use pruning::prune;
