@@ -1,0 +1,39 @@
+use Rattle.std.proofs.Common.{◌≡◌, ◌-◌, ◌++◌, length, take, drop, ℕ, List, sym, ap, refl, subst, ◌∙◌, arith}
+use Rattle.std.proofs.lemmas.List.{take-append-le, take_all}
+use Rattle.std.specs.Prelude.{slice_range}
+use Rattle.std.specs.Vec.{with_items, with_items_from}
+use Rattle.ann_defs.specs.declared.near.Near.{Near}
+use Rattle.ann_defs.specs.Distance.{point}
+use Rattle.ann_defs.specs.Nearness.{all_near, ids_of}
+use Rattle.beam_search.specs.Room.{Room}
+use Rattle.beam_search.specs.Gathered.{gathered, IsGathered}
+use Rattle.beam_search.proofs.Gathering.{is_gathered}
+use Rattle.beam_search.proofs.gather.candidates.Goals as goal
+
+-- the front of what was written over a list as long
+front_of : (n len : ℕ) (written old : List Near) → length written ≡ n → slice_range (take n (written ++ drop (length written) old)) 0 len ≡ take len written
+front_of n len written old e =
+    let all : take n (written ++ drop (length written) old) ≡ written = take-append-le n written (drop (length written) old) (omega arith) ∙ take_all n written (omega arith) in
+    let same : len - 0 ≡ len = omega arith in
+    ap (λ (k : ℕ). take k (take n (written ++ drop (length written) old))) same ∙ ap (take len) all
+
+pub invariant_of-scratch-lent : goal.invariant_of-scratch-lent
+invariant_of-scratch-lent c = λ w.
+    let room = c.scratch.inside.room in
+    let lent = with_items_from (with_items room c.gather-len.new.room) 0 w in
+    (c.scratch.invariant.0, c.scratch.invariant.1, sym lent.ok.0 ∙ room.ok.0 ∙ c.scratch.invariant.2)
+
+pub returns : goal.returns
+returns c =
+    let points = c.args.points.now.vectors in
+    let p = c.args.p in
+    let extra = c.args.extra.now in
+    let visited : take c.scratch.inside.visited_len c.deref.result.now ≡ c.args.scratch.now.last.visited = ap (take c.scratch.inside.visited_len) c.deref.ensures.value ∙ ap (λ (r : Room). r.last.visited) c.scratch.view_is in
+    let part : c.slice_mut.result.now ≡ take c.gather-len.result c.gather-len.new.room = c.slice_mut.ensures.value ∙ front_of c.scratch.inside.room.len c.gather-len.result c.gather-len.new.room c.scratch.inside.room.items (c.gather-len.auto.room ∙ c.deref_mut.ensures.len) in
+    let list : c.slice_mut.result.now ≡ gathered p (c.args.scratch.now.last.visited ++ all_near points (point points p) extra) = part ∙ c.gather-len.ensures.list ∙ ap (λ (xs : List Near). gathered p (xs ++ all_near points (point points p) extra)) visited in (
+      (refl, λ w. c.scratch.view_is),
+      record {
+        stays = tt;
+        gathered = subst (λ (xs : List Near). IsGathered points p (ids_of c.args.scratch.now.last.visited ++ extra) xs) (sym list) (is_gathered points p c.args.scratch.now.last.visited extra c.requires.in_range c.requires.near c.requires.extra);
+      },
+    )

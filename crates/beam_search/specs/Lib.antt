@@ -1,0 +1,4 @@
+pub mod Room
+pub mod Measured
+pub mod Gathered
+pub mod Lending

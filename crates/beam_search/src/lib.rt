@@ -1,0 +1,19 @@
+//! The search of a graph for the points nearest to a query.
+//!
+//! This is GreedySearch of DiskANN (Algorithm 1), which is also SEARCH-LAYER of HNSW (Algorithm 2). `search` goes
+//! through any graph that gives its rows, and leaves the search list and the visited ids in a `Scratch`. A `Scratch`
+//! is made once for a point set and serves any number of searches. Each takes no memory and can't be refused.
+//! `candidates` makes the set that RobustPrune (DiskANN, Algorithm 2) starts from out of the visited ids.
+#![tactic(auto)]
+
+mod gather;
+mod greedy;
+mod lists;
+mod scratch;
+#[cfg(test)]
+mod tests;
+mod walk;
+
+pub use gather::candidates;
+pub use greedy::search;
+pub use scratch::{Scratch, found, room, visited};
