@@ -1,0 +1,5 @@
+pub mod Words
+pub mod Order
+pub mod Medoid
+pub mod Levels
+pub mod Generator
