@@ -1,0 +1,61 @@
+-- The candidates of a merge.
+use Rattle.std.proofs.Common.{◌≡◌, ◌≢◌, ℕ, ◌+◌, ◌<◌, ◌≤◌, Bool, true, false, cond, not, List, [], ◌∷◌, ◌++◌, map, length, refl, sym, ap, ◌∙◌, subst, inl, inr, arith}
+use Rattle.std.specs.Prelude.{◌==◌, nat_eq, nat_le}
+use Rattle.std.specs.List.{filter, All, IsDistinct}
+use Rattle.std.proofs.lemmas.Bool.{ne_eqb, le-leb, lt-leb}
+use Rattle.std.proofs.lemmas.List.{length-map, map-append}
+use Rattle.std.proofs.lemmas.List.Elements.{All-append, All-filter, All-map, All-head, All-tail}
+use Rattle.ann_defs.specs.declared.near.Near.{Near}
+use Rattle.ann_defs.specs.Distance.{point}
+use Rattle.ann_defs.specs.Nearness.{near_of, all_near, ids_of}
+use Rattle.ann_defs.specs.RobustPrune.{pruned_row}
+use Rattle.ann_defs.specs.Graph.{has, without}
+use Rattle.ann_defs.specs.Ordered.{Has}
+use Rattle.ann_defs.proofs.Order.{has-map, All_has}
+use Rattle.robust_prune.specs.Candidates.{AreCandidates}
+use Rattle.ann_defs.specs.BatchInsert.{merge_of}
+use Rattle.ann_defs.proofs.Members.{distinct_once}
+use Rattle.ann_defs.proofs.GoodRows.{added_to, added_once}
+
+pub ids-near : (points : List (List ℕ)) (q : List ℕ) (xs : List ℕ) → ids_of (all_near points q xs) ≡ xs
+ids-near points q [] = refl
+ids-near points q (x ∷ xs) = ap (λ ys. x ∷ ys) (ids-near points q xs)
+
+without_none : (p : ℕ) (xs : List ℕ) → All (λ v. v ≢ p) xs → without p xs ≡ xs
+without_none p [] h = refl
+without_none p (x ∷ xs) h =
+    let here : not (x == p) ≡ true = ap not (ne_eqb x p (All-head (λ v. v ≢ p) x xs h)) in
+    ap (λ b. cond b (x ∷ without p xs) (without p xs)) here ∙ ap (λ ys. x ∷ ys) (without_none p xs (All-tail (λ v. v ≢ p) x xs h))
+
+module _ (points : List (List ℕ)) (p : ℕ) (row sources : List ℕ) where
+  abbrev q : List ℕ
+  q = point points p
+
+  abbrev added : List ℕ
+  added = added_to row sources
+
+  -- what is laid out one after the other
+  pub laid : (first all : List Near) → first ≡ all_near points q row → all ≡ first ++ all_near points q (filter (λ s. not (has row s)) sources) → all ≡ all_near points q added
+  laid first all e f = f ∙ ap (λ (xs : List Near). xs ++ all_near points q (filter (λ s. not (has row s)) sources)) e ∙ sym (map-append (near_of points q) row (filter (λ s. not (has row s)) sources))
+
+  pub same_length : (all : List Near) → all ≡ all_near points q added → length all ≡ length added
+  same_length all e = ap length e ∙ length-map added (near_of points q)
+
+  module _ (inside : All (λ v. v < length points) row) (distinct : IsDistinct nat_eq row) (others : All (λ v. v ≢ p) row) (more : All (λ v. v < length points) sources) (more_distinct : IsDistinct nat_eq sources) (more_others : All (λ v. v ≢ p) sources) where
+    added_others : All (λ v. v ≢ p) added
+    added_others = All-append (λ v. v ≢ p) row (filter (λ s. not (has row s)) sources) others (All-filter (λ s. not (has row s)) (λ v. v ≢ p) sources more_others)
+
+    pub added_candidates : AreCandidates points p (all_near points q added)
+    added_candidates = record {
+      in_range = All-map (λ (x : Near). x.id < length points) (near_of points q) added (All-append (λ v. v < length points) row (filter (λ s. not (has row s)) sources) inside (All-filter (λ s. not (has row s)) (λ v. v < length points) sources more));
+      near = All-map (λ (x : Near). x ≡ near_of points q x.id) (near_of points q) added (λ k d h. refl);
+      distinct = rw (ids-near points q added) (distinct_once added (added_once row sources distinct more_distinct));
+      others = All-map (λ (x : Near). x.id ≢ p) (near_of points q) added added_others;
+    }
+
+    pub merge_full : (num den degree : ℕ) → degree < length added → pruned_row points p added num den degree ≡ merge_of points num den degree p row sources
+    merge_full num den degree h =
+        sym (ap (λ b. cond b added (pruned_row points p (without p added) num den degree)) (lt-leb (length added) degree h) ∙ ap (λ (xs : List ℕ). pruned_row points p xs num den degree) (without_none p added added_others))
+
+  pub merge_room : (num den degree : ℕ) → length added ≤ degree → added ≡ merge_of points num den degree p row sources
+  merge_room num den degree h = sym (ap (λ b. cond b added (pruned_row points p (without p added) num den degree)) (le-leb (length added) degree h))

@@ -1,0 +1,129 @@
+//! A row joined with its sources.
+ghost use Rattle.std.specs.Prelude.{◌≡◌, ◌≢◌, ◌+◌, ◌<◌, ◌≤◌, ◌++◌, IsTrue, not, length, take, map, nat_eq};
+ghost use Rattle.std.specs.List.{All, IsDistinct, filter};
+ghost use Rattle.ann_defs.specs.Distance.{point};
+ghost use Rattle.ann_defs.specs.Nearness.{near_of, all_near, ids_of};
+ghost use Rattle.ann_defs.specs.Graph.{has};
+ghost use Rattle.ann_defs.specs.BatchInsert.{merge_of};
+ghost use Rattle.back_edges.specs.Sources.{sources_in};
+
+use crate::pair::Pair;
+use ann_defs::{Alpha, Near};
+use bin_files::Points;
+use graph_files::Rows;
+use lane_distance::dist;
+use robust_prune::prune;
+
+/// The row of a target with the sources of its proposals.
+///
+/// Where row and sources together are at most `degree` ids, it is the row as it stands, followed by the sources that
+/// aren't in it, in their order. Else all of them are pruned for the target (DiskANN, Algorithm 2, as in Algorithm 3,
+/// line 8), nearest first. `room` holds the candidates with their squared distances meanwhile; what it and the rest of
+/// `out` hold afterwards is not said. It takes no memory and refuses nothing.
+///
+/// The answer is the length of the row, which stands at the front of `out`.
+pub fn merged_row<R: Rows>(
+    points: &Points,
+    rows: &R,
+    target: u32,
+    sources: &[Pair],
+    alpha: Alpha,
+    degree: u32,
+    room: &mut [Near],
+    out: &mut [u32],
+) -> usize
+    requires target { target < length points.now.vectors }
+    requires held { IsTrue (R.held rows.now target) }
+    requires row { All (λ v. v < length points.now.vectors) (R.row_of rows.now target) }
+    requires row_distinct { IsDistinct nat_eq (R.row_of rows.now target) }
+    requires row_others { All (λ v. v ≢ target) (R.row_of rows.now target) }
+    requires sources { All (λ p. p.source < length points.now.vectors) sources.now }
+    requires sources_distinct { IsDistinct nat_eq (sources_in sources.now) }
+    requires sources_others { All (λ p. p.source ≢ target) sources.now }
+    requires room { length (R.row_of rows.now target) + length sources.now ≤ length room.old }
+    requires out { degree ≤ length out.old }
+    ensures row { take result out.new ≡
+        merge_of points.now.vectors alpha.num alpha.den degree target (R.row_of rows.now target) (sources_in sources.now) }
+    ensures bound { result ≤ degree }
+{
+    let row = rows.row(target);
+    let from = lay_row(points, target, row, room);
+    let len = lay_sources(points, target, row, sources, room, from);
+    if len <= degree as usize {
+        copy_ids(&room[..len], out);
+        len
+    } else {
+        prune(points, target, &mut room[..len], alpha, degree, out)
+    }
+}
+
+// An id with its squared distance to the target.
+fn near(points: &Points, target: u32, id: u32) -> Near
+    requires target { target < length points.now.vectors }
+    requires id { id < length points.now.vectors }
+    ensures { result ≡ near_of points.now.vectors (point points.now.vectors target) id }
+{
+    Near {
+        dist: dist(points.at(target), points.at(id)),
+        id,
+    }
+}
+
+// Lays out the row at the front of the room. The answer is its length.
+fn lay_row(points: &Points, target: u32, row: &[u32], room: &mut [Near]) -> usize
+    requires target { target < length points.now.vectors }
+    requires row { All (λ v. v < length points.now.vectors) row.now }
+    requires room { length row.now ≤ length room.old }
+    ensures list { take result room.new ≡ all_near points.now.vectors (point points.now.vectors target) row.now }
+    ensures len { result ≡ length row.now }
+{
+    let mut len = 0;
+    for id in row {
+        room[len] = near(points, target, *id);
+        len += 1;
+    }
+    len
+}
+
+// Whether an id is in the row.
+fn has_id(row: &[u32], id: u32) -> bool
+    ensures { result ≡ has row.now id }
+{
+    row.iter().any(|x| *x == id)
+}
+
+// Lays out, after the first `from`, the sources that aren't in the row. The answer is how many there are then.
+fn lay_sources(
+    points: &Points,
+    target: u32,
+    row: &[u32],
+    sources: &[Pair],
+    room: &mut [Near],
+    from: usize,
+) -> usize
+    requires target { target < length points.now.vectors }
+    requires sources { All (λ p. p.source < length points.now.vectors) sources.now }
+    requires room { from + length sources.now ≤ length room.old }
+    ensures list { take result room.new ≡
+        take from room.old ++ all_near points.now.vectors (point points.now.vectors target) (filter (λ s. not (has row.now s)) (sources_in sources.now)) }
+    ensures bound { result ≤ from + length sources.now }
+{
+    let mut len = from;
+    for pair in sources {
+        if !has_id(row, pair.source) {
+            room[len] = near(points, target, pair.source);
+            len += 1;
+        }
+    }
+    len
+}
+
+// Copies the ids to the front of `out`.
+fn copy_ids(nears: &[Near], out: &mut [u32])
+    requires { length nears.now ≤ length out.old }
+    ensures { take (length nears.now) out.new ≡ ids_of nears.now }
+{
+    for (i, x) in nears.iter().enumerate() {
+        out[i] = x.id;
+    }
+}
