@@ -1,0 +1,9 @@
+pub mod Ascending
+pub mod Differing
+pub mod Padding
+pub mod Sources
+pub mod MergeFacts
+pub mod Plans
+pub mod Touched
+pub mod Stepping
+pub mod NextBatch

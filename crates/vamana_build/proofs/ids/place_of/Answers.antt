@@ -1,0 +1,22 @@
+use Rattle.std.proofs.Common.{◌≡◌, ◌<◌, ◌≤◌, arith, length, get_or, ℕ, Err, sym, subst}
+use Rattle.std.specs.Ordering.{nat_cmp}
+use Rattle.std.proofs.lemmas.List.Sorted.{searched}
+use Rattle.ann_defs.specs.Ordered.{Rises}
+use Rattle.back_edges.proofs.Grouping.{rising_numbers, has_none}
+use Rattle.vamana_build.proofs.Ascending.{ordered_rises}
+use Rattle.vamana_build.proofs.ids.place_of.Goals as goal
+
+pub returns-in-Err : goal.returns-in-Err
+returns-in-Err c =
+    let xs = c.args.ids.now in
+    let x = c.args.id in
+    let at = c.in-Err.field-0 in
+    let rises = subst (Rises nat_cmp) (sym c.requires) (ordered_rises xs) in
+    let found = searched xs x (Err at) c.in-Err.ensures.position (rising_numbers xs rises) in
+    has_none xs x (λ k within e.
+    let low = found.1 k in
+    let high = found.2 k in
+    apart k at (get_or xs k 0) x low (λ h. high h within) e)
+  where
+    apart : (k at v x : ℕ) → (k < at → v < x) → (at ≤ k → x < v) → v ≡ x → ⊥
+    apart k at v x low high e = grind arith

@@ -1,0 +1,11 @@
+use Rattle.std.proofs.Common.{◌≡◌, ◌++◌, take}
+use Rattle.back_edges.specs.Proposing.{Proposed}
+use Rattle.vamana_build.specs.Proposed.{pairs_of}
+use Rattle.vamana_build.proofs.overlay.propose_row.Given as goal
+
+abbrev pub invariant-loop-t : goal.invariant-loop-t
+invariant-loop-t l = record {
+  pairs : l.proposals.pairs ≡ l.fn.proposals.pairs ++ pairs_of l.p (take l.t-index l.row);
+  grouped : l.proposals.grouped ≡ l.fn.proposals.grouped;
+  room : l.proposals.room ≡ l.fn.proposals.room;
+}

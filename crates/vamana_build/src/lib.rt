@@ -1,0 +1,31 @@
+//! Builds a Vamana graph in batches of doubling size (ParlayANN's batch insertion over DiskANN's GreedySearch and
+//! RobustPrune), by any number of workers: the graph is the same for each.
+//!
+//! A `Plan` holds what is decided before the first batch, `Vamana::step` puts one batch in and answers the rows that it
+//! changed, and `Vamana::into_index` gives the finished index.
+#![tactic(auto)]
+
+mod batch;
+mod block;
+mod change;
+mod difference;
+mod ids;
+mod last_rows;
+mod merged_rows;
+mod new_rows;
+mod overlay;
+mod plan;
+mod posts;
+mod row;
+mod settings;
+mod step;
+mod vamana;
+
+pub use ann_defs::{Alpha, OrderKind, StartKind};
+pub use change::BatchChange;
+pub use plan::Plan;
+pub use settings::VamanaSettings;
+pub use vamana::Vamana;
+
+#[cfg(test)]
+mod tests;

@@ -1,0 +1,58 @@
+//! The new rows of a batch, as tasks.
+ghost use Rattle.std.specs.Prelude.{◌≡◌, ◌+◌, ◌<◌, ◌≤◌, length};
+ghost use Rattle.std.specs.List.{All};
+ghost use Rattle.std.specs.Ordering.{nat_cmp};
+ghost use Rattle.std.proofs.Props.{props};
+ghost use Rattle.ann_defs.specs.Graph.{AreGoodRows};
+ghost use Rattle.ann_defs.specs.Ordered.{ordered};
+ghost use Rattle.vamana_build.specs.Builds.{build_of};
+ghost use Rattle.vamana_build.specs.Serving.{IsServing};
+ghost use Rattle.vamana_build.specs.Wanted.{new_blocks};
+
+use crate::block::seal;
+use crate::plan::Plan;
+use crate::row::new_row;
+use beam_search::Scratch;
+use graph_files::FlatGraph;
+use steal_pool::Work;
+
+/// A task for each point of a batch: its new row in the graph before the batch. The points are in ascending order.
+#[derive(Drop)]
+pub(crate) struct NewRows<'a> {
+    pub plan: &'a Plan<'a>,
+    pub graph: &'a FlatGraph,
+    pub batch: &'a [u32],
+    ghost good: { AreGoodRows (length plan.now.points.now.vectors) plan.now.settings.degree graph.now.rows } by { Prim.hlevel props },
+    ghost batch_fits: { All (λ p. p < length plan.now.points.now.vectors) batch.now },
+    ghost sorted: { batch.now ≡ ordered nat_cmp batch.now },
+    ghost few: { length batch.now ≤ length plan.now.points.now.vectors },
+}
+
+impl<'a> Work for NewRows<'a> {
+    type Scratch = Scratch;
+
+    ghost want = { λ w. new_blocks (build_of w.plan.now.points.now.vectors w.plan.now.settings) w.graph.now.rows w.batch.now };
+
+    ghost wide = { λ w. w.plan.now.settings.degree + 1 };
+
+    ghost serves = { λ w s. IsServing (length w.plan.now.points.now.vectors) w.plan.now.settings.beam s };
+
+    fn tasks(&self) -> u32 {
+        self.batch.len() as u32
+    }
+
+    fn width(&self) -> u32 {
+        self.plan.settings.degree + 1
+    }
+
+    fn run(&self, scratch: &mut Scratch, task: u32, out: &mut [u32]) {
+        let len = new_row(
+            self.plan,
+            self.graph,
+            self.batch[task as usize],
+            scratch,
+            &mut out[1..],
+        );
+        seal(out, len);
+    }
+}

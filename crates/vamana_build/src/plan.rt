@@ -1,0 +1,88 @@
+//! What is decided before the first batch.
+ghost use Rattle.std.specs.Prelude.{◌≡◌, ◌+◌, ◌*◌, ◌<◌, ◌≤◌, length, IfOk, IfSome};
+ghost use Rattle.std.specs.List.{All};
+ghost use Rattle.ann_defs.specs.BatchInsert.{cap_of};
+ghost use Rattle.vamana_build.specs.Builds.{order_of, start_of, batch_cap};
+
+use crate::settings::VamanaSettings;
+use ann_shelf::NoMemory;
+use bin_files::Points;
+use prefix_batches::default_cap;
+use seeded_order::insertion_order_of;
+use std::alloc::Global;
+
+/// A point set with settings in range, the order of insertion and the cap of the batches.
+///
+/// Order and cap are those of the points and the settings. The first of the order is the start of each search.
+#[derive(Drop)]
+pub struct Plan<'p> {
+    pub points: &'p Points,
+    pub order: Vec<u32>,
+    pub cap: u32,
+    pub settings: VamanaSettings,
+    pub ghost count: { (1 ≤ length points.now.vectors) × (length points.now.vectors ≤ 4194304) },
+    pub ghost degree: { (1 ≤ settings.degree) × (settings.degree ≤ 128) },
+    pub ghost beam: { (1 ≤ settings.beam) × (settings.beam ≤ 1024) },
+    pub ghost words: { length points.now.vectors * (settings.degree + 1) ≤ 134217728 },
+    pub ghost ordered: { order.items ≡ order_of points.now.vectors settings },
+    pub ghost whole: { length order.items ≡ length points.now.vectors },
+    pub ghost inside: { All (λ p. p < length points.now.vectors) order.items },
+    pub ghost capped: { cap ≡ batch_cap points.now.vectors settings },
+    pub ghost cap_fits: { (1 ≤ cap) × (cap ≤ 4194304) },
+}
+
+impl<'p> Plan<'p> {
+    /// The plan for a point set and settings.
+    ///
+    /// The settings are in range, and the graph's words, `degree + 1` for each point, are at most 134,217,728. Four
+    /// bytes for each point are kept; in between the seeded order takes twenty. A refusal leaves nothing.
+    pub fn make(
+        alloc: Global,
+        points: &'p Points,
+        settings: VamanaSettings,
+    ) -> Result<Plan<'p>, NoMemory>
+        requires degree { (1 ≤ settings.degree) × (settings.degree ≤ 128) }
+        requires beam { (1 ≤ settings.beam) × (settings.beam ≤ 1024) }
+        requires cap { IfSome settings.cap (λ cap. (1 ≤ cap) × (cap ≤ 4194304)) }
+        requires words { length points.now.vectors * (settings.degree + 1) ≤ 134217728 }
+        ensures points { IfOk result (λ p. p.points.now ≡ points.now) }
+        ensures settings { IfOk result (λ p. p.settings ≡ settings) }
+    {
+        let order = insertion_order_of(
+            alloc,
+            points,
+            settings.order,
+            settings.start,
+            settings.seed,
+        )?;
+        let cap = cap_for(points.count(), settings.cap);
+        Ok(Plan {
+            points,
+            order,
+            cap,
+            settings,
+        })
+    }
+
+    /// The point at which each search starts: the first of the order.
+    pub fn start(&self) -> u32
+        ensures value { result ≡ start_of self.now.points.now.vectors self.now.settings }
+        ensures bound { result < length self.now.points.now.vectors }
+    {
+        self.order[0]
+    }
+}
+
+// The greatest number of points in a batch.
+fn cap_for(n: u32, cap: Option<u32>) -> u32
+    requires points { n ≤ 4194304 }
+    requires cap { IfSome cap (λ cap. (1 ≤ cap) × (cap ≤ 4194304)) }
+    ensures value { result ≡ cap_of n cap }
+    ensures some { 1 ≤ result }
+    ensures bound { result ≤ 4194304 }
+{
+    match cap {
+        Some(cap) => cap,
+        None => default_cap(n),
+    }
+}

@@ -1,0 +1,58 @@
+//! From one graph of a build to the next.
+ghost use Rattle.std.specs.Prelude.{◌≡◌, ◌+◌, ◌<◌, ◌≤◌, IfOk, OnOk, OnErr, length};
+ghost use Rattle.std.specs.List.{All};
+ghost use Rattle.std.specs.Ordering.{nat_cmp};
+ghost use Rattle.ann_defs.specs.Ordered.{ordered};
+ghost use Rattle.ann_defs.specs.BatchInsert.{bound_at};
+ghost use Rattle.steal_pool.specs.Work.{AllServe};
+ghost use Rattle.vamana_build.specs.Builds.{graph_at};
+ghost use Rattle.vamana_build.specs.Changes.{change_at};
+ghost use Rattle.vamana_build.specs.Serving.{IsServing};
+
+use crate::batch::rows_changed;
+use crate::change::BatchChange;
+use crate::ids::sort_ids;
+use crate::new_rows::NewRows;
+use crate::plan::Plan;
+use ann_shelf::{Gate, NoMemory};
+use beam_search::Scratch;
+use graph_files::FlatGraph;
+use std::alloc::Global;
+use std::thread::Threads;
+use steal_pool::{Post, Rounds};
+
+/// The change by the batch after the first `k`, whose points stand from `from` to `to` in the order.
+pub(crate) fn change_of<R: Threads + Sync, P: Rounds, G: Gate + Sync>(
+    rt: &R,
+    alloc: Global,
+    pool: &mut P,
+    plan: &Plan,
+    k: u32,
+    from: u32,
+    to: u32,
+    graph: &FlatGraph,
+    posts: &mut [Post<Scratch>],
+    gate: &G,
+) -> Result<BatchChange, NoMemory>
+    requires from { from ≡ bound_at (length plan.now.points.now.vectors) plan.now.cap k }
+    requires to { to ≡ bound_at (length plan.now.points.now.vectors) plan.now.cap (k + 1) }
+    requires some { from < to }
+    requires within { to ≤ length plan.now.points.now.vectors }
+    requires few { k < 4194304 }
+    requires graph { graph.now ≡ graph_at plan.now.points.now.vectors plan.now.settings k }
+    requires posts { length posts.old ≡ P.count pool.old }
+    requires serve { AllServe (IsServing (length plan.now.points.now.vectors) plan.now.settings.beam) posts.old }
+    ensures change { IfOk result (λ c. c ≡ change_at plan.now.points.now.vectors plan.now.settings k) }
+    ensures serve { AllServe (IsServing (length plan.now.points.now.vectors) plan.now.settings.beam) posts.new }
+    ensures workers { P.count pool.new ≡ P.count pool.old }
+{
+    let mut batch = plan.order[from as usize..to as usize].to_vec(alloc)?;
+    sort_ids(&mut batch);
+    let rows = NewRows {
+        plan,
+        graph,
+        batch: batch.as_slice(),
+    };
+    let changed = rows_changed(rt, alloc, pool, &rows, posts, gate)?;
+    Ok(BatchChange::new(k + 1, changed))
+}
