@@ -1,0 +1,12 @@
+use Rattle.std.proofs.Common.{◌≡◌, ◌+◌, arith, length}
+use Rattle.std.proofs.lemmas.List.{length-map}
+use Rattle.graph_files.specs.View.{contents}
+use Rattle.graph_files.specs.Layers.{Layered}
+use Rattle.annbuild_commands.proofs.Ends.{told_line, kind_back}
+use Rattle.annbuild_commands.proofs.build.line.Goals as goal
+use Rattle.std.proofs.Common.{◌∙◌}
+
+pub returns : goal.returns
+returns c =
+    let layers : 1 + c.len.result ≡ length (contents c.args.index.now).layers = omega (arith, c.len.ensures, length-map c.args.index.now.upper.items (λ (l : Layered). l.entries)) in
+    c.built_line.ensures ∙ told_line (contents c.args.index.now) c.args.index.now.kind (1 + c.len.result) c.edges.result (kind_back c.args.index.now.kind) layers c.edges.ensures

@@ -1,0 +1,45 @@
+-- The index that a build must give. No number of workers and no pool is among what it depends on.
+use Rattle.std.specs.Prelude.{ℕ, ◌+◌, ◌*◌, ◌==◌, if◌then◌else◌, Option, List, length, slice_index}
+use Rattle.ann_defs.specs.Distance.{dim_of}
+use Rattle.ann_defs.specs.BatchInsert.{Build, cap_of, total_of, graph_after}
+use Rattle.ann_defs.specs.declared.kinds.OrderKind.{OrderKind}
+use Rattle.ann_defs.specs.declared.kinds.StartKind.{StartKind}
+use Rattle.ann_defs.specs.declared.kinds.Kind.{Kind}
+use Rattle.ann_defs.specs.declared.kinds.Kind.TheVariants.{Vamana, Hnsw, Nnd}
+use Rattle.graph_files.specs.Index.{Contents, flat_contents, edges_of, text_of}
+use Rattle.seeded_order.specs.Order.{insertion_order}
+use Rattle.annbuild_words.specs.declared.request.BuildOptions.{BuildOptions}
+use Rattle.annbuild_words.specs.declared.line.BuiltLine.{BuiltLine}
+use Rattle.annbuild_words.specs.Lines.{built_text}
+
+-- the Vamana index of a point set: its order, start, seed, degree, beam, alpha and cap decide it
+abbrev pub index_with : List (List ℕ) → OrderKind → StartKind → ℕ → ℕ → ℕ → ℕ → ℕ → Option ℕ → Contents
+index_with X order start seed degree beam num den cap =
+    let ids = insertion_order X order start seed in
+    let first = slice_index ids 0 in
+    let b : Build = record { points = X; start = first; beam = beam; num = num; den = den; degree = degree } in
+    flat_contents 1 (length X) (dim_of X) degree first (graph_after b ids (cap_of (length X) cap) (total_of (length X) (cap_of (length X) cap)))
+
+-- the index that a build with these options must give
+unfoldable pub index_of : List (List ℕ) → BuildOptions → Contents
+index_of X o = index_with X o.order o.start o.seed o.degree o.beam o.num o.den o.cap
+
+-- the words that the rows of so many points take
+abbrev pub words_of : ℕ → BuildOptions → ℕ
+words_of n o = n * (o.degree + 1)
+
+-- the kind with this code
+abbrev pub kind_at : ℕ → Kind
+kind_at code = if code == 1 then Vamana else if code == 2 then Hnsw else Nnd
+
+-- what the line of a build tells of an index
+abbrev pub told_of : Contents → BuiltLine
+told_of i = record { kind = kind_at i.kind; count = i.count; dim = i.dim; degree = i.degree; start = i.start; layers = length i.layers; edges = edges_of i }
+
+-- the bytes of the index file
+unfoldable pub file_of : Contents → List ℕ
+file_of i = text_of i
+
+-- the line of a build
+unfoldable pub line_of : Contents → List ℕ
+line_of i = built_text (told_of i)

@@ -1,0 +1,4 @@
+pub mod Faults
+pub mod IndexOf
+pub mod Building
+pub mod Ending

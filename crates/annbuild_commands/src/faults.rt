@@ -1,0 +1,33 @@
+//! The faults of the parts, as faults of the program.
+ghost use Rattle.std.specs.Prelude.{◌≡◌};
+ghost use Rattle.annbuild_commands.specs.Faults.{points_fault_of, write_fault_of};
+
+use ann_shelf::Slip;
+use annbuild_words::{Fault, Role, Rule};
+use bin_files::PointsFault;
+
+/// A fault of a file of points.
+pub(crate) fn points_fault(file: Role, fault: PointsFault) -> Fault
+    ensures { result ≡ points_fault_of file fault }
+{
+    match fault {
+        PointsFault::Read => Fault::Read { file },
+        PointsFault::Malformed { place, rule } => Fault::Malformed {
+            file,
+            place,
+            rule: Rule::Points(rule),
+        },
+        PointsFault::TooLarge { name, value, limit } => Fault::TooLarge { name, value, limit },
+        PointsFault::NoMemory => Fault::NoMemory,
+    }
+}
+
+/// A fault of writing a file or the output.
+pub(crate) fn write_fault(file: Role, slip: Slip) -> Fault
+    ensures { result ≡ write_fault_of file slip }
+{
+    match slip {
+        Slip::Failed => Fault::Write { file },
+        Slip::NoMemory => Fault::NoMemory,
+    }
+}
