@@ -30,7 +30,7 @@ use Rattle.annbuild_words.specs.declared.fault.Role.TheVariants.{Base, Index, Qu
 use Rattle.annbuild_commands.specs.Faults.{write_fault_of}
 use Rattle.annbuild_commands.specs.IndexOf.{index_of, file_of, line_of, told_of, kind_at}
 use Rattle.annbuild_commands.specs.Ending.{OnBuild}
-use Rattle.annbuild_commands.specs.Building.{IsIndexOf, IsBuilt, IsGood, Tells, HasCause, IsOfWriting, Leaves, LeavesOut, index_text, index_line}
+use Rattle.annbuild_commands.specs.Building.{IsIndexOf, IsBuilt, IsTold, IsGood, Tells, HasCause, IsOfWriting, Leaves, LeavesOut, index_text, index_line}
 
 pub file_is : (i : Contents) → text_of i ≡ file_of i
 unfolding file_of
@@ -143,10 +143,14 @@ few_layers kind layers h =
       | false ↦ λ e. grind (arith, nat_tests)
     ] h
 
-pub built_from : (files : Files) (after : Option Files) (before : List ℕ) (got : Option (List ℕ)) (base index : List ℕ) (o : BuildOptions) (i : Contents)
-    → IsIndexOf (bytes_of files base) o i → after ≡ Some (with_file files index (file_of i)) → got ≡ Some (before ++ line_of i) → IsBuilt files after before got base index o
-built_from files after before got base index o i (good, are, spelled, is) whole line =
-    (points_of (bytes_of files base), are, spelled, whole ∙ ap (λ x. Some (with_file files index (file_of x))) is, line ∙ ap (λ x. Some (before ++ line_of x)) is)
+pub built_from : (files : Files) (after : Option Files) (base index : List ℕ) (o : BuildOptions) (i : Contents)
+    → IsIndexOf (bytes_of files base) o i → after ≡ Some (with_file files index (file_of i)) → IsBuilt files after base index o
+built_from files after base index o i (good, are, spelled, is) whole =
+    (points_of (bytes_of files base), are, spelled, whole ∙ ap (λ x. Some (with_file files index (file_of x))) is)
+
+pub told_from : (files : Files) (before : List ℕ) (got : Option (List ℕ)) (base : List ℕ) (o : BuildOptions) (i : Contents)
+    → IsIndexOf (bytes_of files base) o i → got ≡ Some (before ++ line_of i) → IsTold files before got base o
+told_from files before got base o i (good, are, spelled, is) line = line ∙ ap (λ x. Some (before ++ line_of x)) is
 
 -- a fault of a build isn't one of the words
 pub not_usage : (reads writes outs : Type 0) (fault : Fault) → HasCause reads writes outs fault → fault ≡ Usage → ⊥

@@ -31,11 +31,18 @@ IsGood file o = (verdict file ≡ None) × (words_of (length (points_of file)) o
 abbrev pub IsIndexOf : List ℕ → BuildOptions → Contents → Type 0
 IsIndexOf file o i = IsGood file o × ArePoints (points_of file) × (file ≡ text (points_of file)) × (i ≡ index_of (points_of file) o)
 
--- the index file holds the index of the points whose text the data held, every other file is as it was, and the output gained the line
-abbrev pub IsBuilt : Files → Option Files → List ℕ → Option (List ℕ) → List ℕ → List ℕ → BuildOptions → Type 0
-IsBuilt files after before written base index o =
-    (X : List (List ℕ)) × ArePoints X × (bytes_of files base ≡ text X)
-    × (after ≡ Some (with_file files index (file_of (index_of X o)))) × (written ≡ Some (before ++ line_of (index_of X o)))
+-- the index file holds the index of the points whose text the data held, and every other file is as it was
+abbrev pub IsBuilt : Files → Option Files → List ℕ → List ℕ → BuildOptions → Type 0
+IsBuilt files after base index o =
+    (X : List (List ℕ)) × ArePoints X × (bytes_of files base ≡ text X) × (after ≡ Some (with_file files index (file_of (index_of X o))))
+
+-- the output gained the line of the index of the points that the data held
+abbrev pub IsTold : Files → List ℕ → Option (List ℕ) → List ℕ → BuildOptions → Type 0
+IsTold files before written base o = written ≡ Some (before ++ index_line (bytes_of files base) o)
+
+-- the output got nothing, or the index file is whole
+abbrev pub IsInOrder : Files → Option Files → List ℕ → List ℕ → Option (List ℕ) → Option (List ℕ) → Type 0
+IsInOrder files after name text before written = (written ≡ before) ⊎ (after ≡ Some (with_file files name text))
 
 -- what a fault says of the data's bytes
 abbrev pub Tells : List ℕ → BuildOptions → Fault → Type 0

@@ -1,5 +1,5 @@
 //! `build`: the index of a file of points, from bytes to bytes.
-ghost use Rattle.std.specs.Prelude.{◌≡◌, ◌+◌, ◌++◌, ◌*◌, ◌<◌, ◌≤◌, ℕ, List, Some, length, IfOk, IfErr, IfSome, OnOk};
+ghost use Rattle.std.specs.Prelude.{◌≡◌, ◌+◌, ◌++◌, ◌*◌, ◌<◌, ◌≤◌, ℕ, List, Some, length, IfOk, IfErr, IfSome, OnOk, OnErr};
 ghost use Rattle.ann_shelf.specs.Faults.{Rose, NoneFell};
 ghost use Rattle.ann_shelf.specs.Files.{Files, bytes_of, with_file};
 ghost use Rattle.vamana_build.specs.Builds.{batches_of};
@@ -7,7 +7,7 @@ ghost use Rattle.graph_files.specs.View.{contents};
 ghost use Rattle.graph_files.specs.WellFormed.{IsWellFormed};
 ghost use Rattle.annbuild_words.specs.Asked.{AreInRange};
 ghost use Rattle.annbuild_commands.specs.IndexOf.{index_of, file_of, line_of, words_of};
-ghost use Rattle.annbuild_commands.specs.Building.{index_text, index_line, IsGood, IsIndexOf, IsBuilt, Tells, HasCause, IsOfWriting, Leaves, LeavesOut};
+ghost use Rattle.annbuild_commands.specs.Building.{index_text, index_line, IsGood, IsIndexOf, IsBuilt, IsTold, IsInOrder, Tells, HasCause, IsOfWriting, Leaves, LeavesOut};
 
 use crate::faults::{points_fault, write_fault};
 use ann_defs::Alpha;
@@ -157,6 +157,7 @@ fn written<F: Shelf, O: Out>(
         × Leaves files after name.now (file_of (contents index.now)) fault)) }
     ensures leaves_out { IfErr result (λ fault. IfSome (O.written out.old) (λ before. (after : List ℕ) × (O.written out.new ≡ Some after)
         × LeavesOut before after (line_of (contents index.now)) fault)) }
+    ensures in_order { OnErr result (IfSome (F.held shelf.old) (λ files. IsInOrder files (F.held shelf.new) name.now (file_of (contents index.now)) (O.written out.old) (O.written out.new))) }
     ensures reads { NoneFell (F.read_faults shelf.old) (F.read_faults shelf.new) }
 {
     let told = line(index);
@@ -182,8 +183,8 @@ pub(crate) fn build<R: Threads + Sync, F: Shelf, O: Out, G: Gate + Sync>(
     gate: &G,
 ) -> Result<(), Fault>
     requires { AreInRange options.now }
-    ensures done { OnOk result (IfSome (F.held shelf.old) (λ files. IfSome (O.written out.old) (λ before.
-        IsBuilt files (F.held shelf.new) before (O.written out.new) base.now name.now options.now))) }
+    ensures done { OnOk result (IfSome (F.held shelf.old) (λ files. IsBuilt files (F.held shelf.new) base.now name.now options.now)) }
+    ensures told { OnOk result (IfSome (F.held shelf.old) (λ files. IfSome (O.written out.old) (λ before. IsTold files before (O.written out.new) base.now options.now))) }
     ensures good { OnOk result (IfSome (F.held shelf.old) (λ files. IsGood (bytes_of files base.now) options.now)) }
     ensures cause { IfErr result (HasCause (Rose (F.read_faults shelf.old base.now) (F.read_faults shelf.new base.now))
         (Rose (F.write_faults shelf.old name.now) (F.write_faults shelf.new name.now)) (Rose (O.faults out.old) (O.faults out.new))) }
@@ -192,6 +193,7 @@ pub(crate) fn build<R: Threads + Sync, F: Shelf, O: Out, G: Gate + Sync>(
         × Leaves files after name.now (index_text (bytes_of files base.now) options.now) fault)) }
     ensures leaves_out { IfErr result (λ fault. IfSome (F.held shelf.old) (λ files. IfSome (O.written out.old) (λ before. (after : List ℕ) × (O.written out.new ≡ Some after)
         × LeavesOut before after (index_line (bytes_of files base.now) options.now) fault))) }
+    ensures in_order { OnErr result (IfSome (F.held shelf.old) (λ files. IsInOrder files (F.held shelf.new) name.now (index_text (bytes_of files base.now) options.now) (O.written out.old) (O.written out.new))) }
 {
     let index = match prepared(rt, alloc, base, options, shelf, gate) {
         Ok(index) => index,

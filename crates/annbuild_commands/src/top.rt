@@ -5,7 +5,7 @@ ghost use Rattle.ann_shelf.specs.Files.{Files, bytes_of};
 ghost use Rattle.annbuild_words.specs.Asked.{request_of};
 ghost use Rattle.annbuild_words.specs.Asked.Meaning.{Nothing'};
 ghost use Rattle.annbuild_words.specs.Codes.{code_of};
-ghost use Rattle.annbuild_commands.specs.Building.{index_text, index_line, IsGood, IsBuilt, Tells, HasCause, Leaves, LeavesOut};
+ghost use Rattle.annbuild_commands.specs.Building.{index_text, index_line, IsGood, IsBuilt, IsTold, IsInOrder, Tells, HasCause, Leaves, LeavesOut};
 ghost use Rattle.annbuild_commands.specs.Ending.{OnBuild, IsDoneOrNoMemory};
 
 use crate::build::build;
@@ -34,8 +34,10 @@ pub fn annbuild<R: Threads + Wait + Sync, F: Shelf, O: Out, G: Gate + Sync>(
     ensures usage { (result.fault ≡ Some Fault.Usage) ↔ (request_of (map (λ w. string_bytes w) words.now) ≡ Nothing') }
     ensures untouched { request_of (map (λ w. string_bytes w) words.now) ≡ Nothing' → (F.held shelf.new ≡ F.held shelf.old) × (O.written out.new ≡ O.written out.old) }
     // With code 0 the index file is the definition's, every other file is as it was, and the output gained the line.
-    ensures built { IfNone result.fault (OnBuild (request_of (map (λ w. string_bytes w) words.now)) (λ base index options. IfSome (F.held shelf.old) (λ files. IfSome (O.written out.old) (λ before.
-        IsBuilt files (F.held shelf.new) before (O.written out.new) base index options)))) }
+    ensures built { IfNone result.fault (OnBuild (request_of (map (λ w. string_bytes w) words.now)) (λ base index options. IfSome (F.held shelf.old) (λ files.
+        IsBuilt files (F.held shelf.new) base index options))) }
+    ensures told { IfNone result.fault (OnBuild (request_of (map (λ w. string_bytes w) words.now)) (λ base index options. IfSome (F.held shelf.old) (λ files. IfSome (O.written out.old) (λ before.
+        IsTold files before (O.written out.new) base options)))) }
     // Code 0 comes only where the file is well formed and the limits hold.
     ensures good { IfNone result.fault (OnBuild (request_of (map (λ w. string_bytes w) words.now)) (λ base index options. IfSome (F.held shelf.old) (λ files. IsGood (bytes_of files base) options))) }
     // Where the file is well formed, the limits hold and no call failed, it comes, unless memory is wanting.
@@ -51,6 +53,9 @@ pub fn annbuild<R: Threads + Wait + Sync, F: Shelf, O: Out, G: Gate + Sync>(
         × Leaves files after index (index_text (bytes_of files base) options) fault))) }
     ensures leaves_out { IfSome result.fault (λ fault. OnBuild (request_of (map (λ w. string_bytes w) words.now)) (λ base index options. IfSome (F.held shelf.old) (λ files. IfSome (O.written out.old) (λ before.
         (after : List ℕ) × (O.written out.new ≡ Some after) × LeavesOut before after (index_line (bytes_of files base) options) fault)))) }
+    // The output got something only where the index file is whole.
+    ensures in_order { IfSome result.fault (λ fault. OnBuild (request_of (map (λ w. string_bytes w) words.now)) (λ base index options. IfSome (F.held shelf.old) (λ files.
+        IsInOrder files (F.held shelf.new) index (index_text (bytes_of files base) options) (O.written out.old) (O.written out.new)))) }
     // Nothing is written on err.
     ensures silent { O.written _err.new ≡ O.written _err.old }
 {

@@ -1,4 +1,4 @@
-use Rattle.std.proofs.Common.{◌≡◌, ◌∙◌, ap, sym, subst, Some, refl}
+use Rattle.std.proofs.Common.{◌≡◌, ◌∙◌, ap, sym, subst, Some, refl, inr}
 use Rattle.bin_files.proofs.Pieces.{told_then}
 use Rattle.bin_files.specs.Write.{WroteSome}
 use Rattle.ann_shelf.specs.Files.{with_file}
@@ -28,3 +28,7 @@ returns-in-Err-write_all-clause-leaves g c = told_then (g.F.Shelf.held c.args.sh
   subst (Leaves files (with_file files c.args.name.now (file_of (contents c.args.index.now))) c.args.name.now (file_of (contents c.args.index.now))) (sym c.write_fault-in-Err-write_all.ensures)
       (leaves_output files _ c.args.name.now (file_of (contents c.args.index.now)) c.in-Err-write_all.slip refl),
 ))
+
+pub returns-in-Err-write_all-clause-in_order : goal.returns-in-Err-write_all-clause-in_order
+returns-in-Err-write_all-clause-in_order g c = told_then (g.F.Shelf.held c.args.shelf.now) c.in-Ok.ensures.ok (λ files whole.
+    inr (whole ∙ ap (λ text. Some (with_file files c.args.name.now text)) (file_is (contents c.args.index.now))))

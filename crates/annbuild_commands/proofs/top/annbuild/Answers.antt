@@ -29,3 +29,6 @@ returns-in-Err-clause-leaves g c = on_fault _ _ c.in-Err.fault (is_fault _ _ c.o
 
 pub returns-in-Err-clause-leaves_out : goal.returns-in-Err-clause-leaves_out
 returns-in-Err-clause-leaves_out g c = on_fault _ _ c.in-Err.fault (is_fault _ _ c.of.ensures) (on_build _ _ _ _ _ c.in-Build.ensures.meaning c.in-Err.ensures.leaves_out)
+
+pub returns-in-Err-clause-in_order : goal.returns-in-Err-clause-in_order
+returns-in-Err-clause-in_order g c = on_fault _ _ c.in-Err.fault (is_fault _ _ c.of.ensures) (on_build _ _ _ _ _ c.in-Build.ensures.meaning c.in-Err.ensures.in_order)
