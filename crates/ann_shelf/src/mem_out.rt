@@ -1,4 +1,4 @@
-ghost use Rattle.std.specs.Prelude.{◌≡◌, true, false, ◌||◌, ◌==◌, ◌++◌, [], ◌≤◌, ℕ, Some, length, take, OnOk, OnErr, IfOk, IsErrOf};
+ghost use Rattle.std.specs.Prelude.{◌≡◌, true, false, ◌||◌, ◌==◌, ◌++◌, [], ◌≤◌, ℕ, Some, length, OnOk, OnErr, IfOk, IsErrOf};
 ghost use Rattle.ann_shelf.specs.Calls.{next_call};
 ghost use Rattle.ann_shelf.specs.Faults.{Rose};
 

@@ -1,9 +1,8 @@
-ghost use Rattle.std.specs.Prelude.{◌≡◌, ◌⊎◌, true, false, ◌||◌, ◌==◌, ◌++◌, [], ◌≤◌, ℕ, Some, None, length, take, OnOk, OnErr, IfOk, IfErr, IsSome, IsErrOf, option_map};
+ghost use Rattle.std.specs.Prelude.{◌≡◌, ◌⊎◌, true, false, ◌||◌, ◌==◌, ◌++◌, [], ◌≤◌, ℕ, Some, None, length, OnOk, OnErr, IfOk, IfErr, IsSome, IsErrOf, option_map};
 ghost use Rattle.std.specs.FinMap.{get};
 ghost use Rattle.ann_shelf.specs.Calls.{next_call};
 ghost use Rattle.ann_shelf.specs.Faults.{Rose};
 ghost use Rattle.ann_shelf.specs.Files.{Files, no_files, bytes_of, with_file, Reads, AddedSome, EmptiedOrSame};
-ghost use Rattle.ann_shelf.specs.NamedFiles.{files_of};
 
 use crate::calls::is_to_fail;
 use crate::faults::failed;

@@ -1,5 +1,5 @@
 // A list of files by name, as the shelves in memory keep it. Of two files of one name the first counts.
-ghost use Rattle.std.specs.Prelude.{◌≡◌, true, false, ◌++◌, ◌<◌, ◌≤◌, List, ℕ, length, OnOk, OnErr, IfOk, IfSome, IsSome, None, MatchOption, option_map};
+ghost use Rattle.std.specs.Prelude.{◌≡◌, true, false, ◌++◌, ◌<◌, ◌≤◌, length, OnOk, OnErr, IfOk, IfSome, IsSome, None, MatchOption, option_map};
 ghost use Rattle.std.specs.FinMap.{get};
 ghost use Rattle.ann_shelf.specs.Files.{bytes_of, with_file, Reads};
 ghost use Rattle.ann_shelf.specs.NamedFiles.{files_of, IsPlace, IsAbsent};

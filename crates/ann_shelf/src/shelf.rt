@@ -1,4 +1,4 @@
-ghost use Rattle.std.specs.Prelude.{◌≡◌, ◌≢◌, ◌⊎◌, ◌++◌, [], ◌≤◌, ◌<◌, List, ℕ, Option, Some, length, take, IfOk, IfSome, OnOk, IsErrOf};
+ghost use Rattle.std.specs.Prelude.{◌≡◌, ◌++◌, [], ◌≤◌, ◌<◌, List, ℕ, Option, Some, length, take, IfOk, IfSome, OnOk, IsErrOf};
 ghost use Rattle.ann_shelf.specs.Faults.{Rose, NoneFell};
 ghost use Rattle.ann_shelf.specs.Files.{Files, bytes_of, with_file, Reads, AddedSome, EmptiedOrSame};
 

@@ -1,5 +1,4 @@
 //! What a call of the outside may answer in place of `Ok`, and what limits speak of.
-ghost use Rattle.std.specs.Prelude.{◌≡◌};
 
 use std::alloc::{AllocError, AllocFailed};
 

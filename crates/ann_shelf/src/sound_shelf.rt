@@ -1,4 +1,4 @@
-ghost use Rattle.std.specs.Prelude.{◌≡◌, ◌++◌, [], ◌≤◌, ◌<◌, Some, length, take, OnOk, OnErr, IfOk, IfErr, IsOk, option_map};
+ghost use Rattle.std.specs.Prelude.{◌≡◌, ◌++◌, [], ◌≤◌, Some, length, OnOk, OnErr, IfOk, IfErr, IsOk, option_map};
 ghost use Rattle.std.specs.FinMap.{get};
 ghost use Rattle.ann_shelf.specs.Files.{no_files, bytes_of, with_file, Reads};
 

@@ -1,4 +1,4 @@
-ghost use Rattle.std.specs.Prelude.{None, ◌≤◌, ◌<◌, length, IfOk};
+ghost use Rattle.std.specs.Prelude.{None, ◌≤◌, length, IfOk};
 
 use crate::faults::{failed, wanted};
 use crate::{Out, Slip};

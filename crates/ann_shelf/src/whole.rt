@@ -1,5 +1,5 @@
 // Pieces that are appended and written whole, however little one call takes.
-ghost use Rattle.std.specs.Prelude.{◌≡◌, ◌++◌, ◌≤◌, List, ℕ, Some, take, IfSome, OnOk, OnErr, IsErrOf};
+ghost use Rattle.std.specs.Prelude.{◌≡◌, ◌++◌, ◌≤◌, List, ℕ, Some, IfSome, OnOk, OnErr, IsErrOf};
 ghost use Rattle.ann_shelf.specs.Faults.{Rose, NoneFell};
 ghost use Rattle.ann_shelf.specs.Files.{Grows, GrowsSome};
 ghost use Rattle.ann_shelf.specs.Written.{GotSome};
