@@ -81,7 +81,7 @@ take_bytes zero bytes are = tt
 take_bytes (suc k) [] are = tt
 take_bytes (suc k) (b ∷ bytes) are = (are 0, take_bytes k bytes (λ i. are (suc i)))
 
-drop_bytes : (k : ℕ) (bytes : List ℕ) → AreBytes bytes → AreBytes (drop k bytes)
+pub drop_bytes : (k : ℕ) (bytes : List ℕ) → AreBytes bytes → AreBytes (drop k bytes)
 drop_bytes zero bytes are = are
 drop_bytes (suc k) [] are = are
 drop_bytes (suc k) (b ∷ bytes) are = drop_bytes k bytes (λ i. are (suc i))

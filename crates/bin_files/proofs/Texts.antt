@@ -14,7 +14,7 @@ use Rattle.bin_files.specs.Read.{HasHeader}
 use Rattle.ann_defs.specs.Distance.{dim_of}
 use Rattle.bin_files.specs.Rows.{rows, cells, ArePoints}
 use Rattle.bin_files.proofs.Verdicts.{verdict_long, same_u32, body_sound}
-use Rattle.bin_files.proofs.Spelled.{AreBytes, eight, is_text, are_points, limits_of}
+use Rattle.bin_files.proofs.Spelled.{AreBytes, drop_bytes, eight, is_text, are_points, limits_of}
 
 rows-cells : (d : ℕ) (X : List (List ℕ)) → AllByRecursion (λ x. length x ≡ d) X → rows (length X) d (cells X) ≡ X
 rows-cells d [] each = refl
@@ -94,11 +94,6 @@ body_long has wants e =
     let trailing = not_some (nat_lt wants has) _ _ short.1 in
     omega (arith, ltb-false has wants short.0, ltb-false wants has trailing.0)
 
-dropped_bytes : (k : ℕ) (bytes : List ℕ) → AreBytes bytes → AreBytes (drop k bytes)
-dropped_bytes zero bytes are = are
-dropped_bytes (suc k) [] are = are
-dropped_bytes (suc k) (b ∷ bytes) are = dropped_bytes k bytes (λ i. are (suc i))
-
 pub sound_text : (file : List ℕ) → AllByRecursion (λ b. b < 256) file → verdict file ≡ None → ArePoints (points_of file) × (file ≡ text (points_of file))
 sound_text file all none =
     let are = are_of file all in
@@ -109,4 +104,4 @@ sound_text file all none =
     let parts = neither (header_verdict n d) (body_verdict (length (drop 8 file)) (n * d)) first.1 in
     let full : length (drop 8 file) ≡ n * d = body_long (length (drop 8 file)) (n * d) parts.1 in
     let has : HasHeader file n d = record { long = long; count = refl; dim = refl; sound = parts.0; spelled = header_of file are long } in
-    (are_points n d (drop 8 file) parts.0 full (dropped_bytes 8 file are), is_text file n d (drop 8 file) (limits_of n d parts.0).some has refl full)
+    (are_points n d (drop 8 file) parts.0 full (drop_bytes 8 file are), is_text file n d (drop 8 file) (limits_of n d parts.0).some has refl full)

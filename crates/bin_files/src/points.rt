@@ -1,4 +1,4 @@
-ghost use Rattle.std.specs.Prelude.{◌≡◌, ◌*◌, ◌/◌, ◌%◌, ◌+◌, take, drop, ℕ, slice_index, ◌<◌, ◌≤◌, length, vec_len, []};
+ghost use Rattle.std.specs.Prelude.{◌≡◌, ◌*◌, ◌/◌, ◌%◌, ◌+◌, take, drop, ℕ, slice_index, ◌<◌, ◌≤◌, length, vec_len};
 ghost use Rattle.ann_defs.specs.Distance.{point, dim_of};
 ghost use Rattle.bin_files.specs.Rows.{rows, cells, ArePoints};
 
@@ -38,6 +38,7 @@ impl Model for Points {
 }
 
 impl Points {
+    // So many points of so many bytes each, from their bytes.
     pub(crate) fn new(count: u32, dim: u32, bytes: Vec<u8>) -> Points
         requires count { (1 ≤ count) × (count ≤ 4194304) }
         requires dim { (1 ≤ dim) × (dim ≤ 2048) }

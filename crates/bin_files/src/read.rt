@@ -1,5 +1,5 @@
 // Reading a file of points, in whatever pieces the shelf gives.
-ghost use Rattle.std.specs.Prelude.{◌++◌, ◌≡◌, ◌≢◌, ◌⊎◌, ◌+◌, ◌*◌, ◌<◌, ◌≤◌, ◌^◌, List, ℕ, Option, length, take, drop, IfOk, IfSome, IsErrOf, None};
+ghost use Rattle.std.specs.Prelude.{◌++◌, ◌≡◌, ◌⊎◌, ◌+◌, ◌<◌, ◌≤◌, ◌^◌, Option, length, IfOk, IfSome, IsErrOf, None};
 ghost use Rattle.std.specs.Int.{w32, to_le_bytes};
 ghost use Rattle.ann_shelf.specs.Faults.{Rose, NoneFell};
 ghost use Rattle.ann_shelf.specs.Files.{bytes_of};

@@ -1,11 +1,9 @@
 // Writing a file of points.
-ghost use Rattle.std.specs.Prelude.{◌≡◌, ◌⊎◌, ◌++◌, ℕ, Some, take, IfSome, OnOk, OnErr, IsErrOf, slice_index_or, [], length, ◌<◌};
+ghost use Rattle.std.specs.Prelude.{◌≡◌, Some, IfSome, OnOk, OnErr, IsErrOf};
 ghost use Rattle.ann_shelf.specs.Faults.{Rose, NoneFell};
 ghost use Rattle.ann_shelf.specs.Files.{Files, with_file};
 ghost use Rattle.bin_files.specs.Points.{text};
 ghost use Rattle.bin_files.specs.Write.{WroteSome, header_text};
-ghost use Rattle.ann_defs.specs.Distance.{dim_of};
-ghost use Rattle.bin_files.specs.Rows.{cells, ArePoints};
 
 use crate::Points;
 use ann_shelf::{Shelf, Slip, append_all};
