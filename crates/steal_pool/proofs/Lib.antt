@@ -1,1 +1,1 @@
-mod Shares
+mod Progress

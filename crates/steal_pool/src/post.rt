@@ -8,6 +8,8 @@ ghost use Rattle.steal_pool.specs.Work.{scratch_of};
 #[derive(Drop)]
 pub struct Post<S> {
     pub(crate) scratch: S,
+    // the blocks of its share, while a round runs
+    pub(crate) share: Option<Vec<Vec<u32>>>,
 }
 
 impl<S> Post<S> {
@@ -15,6 +17,9 @@ impl<S> Post<S> {
     pub fn new(scratch: S) -> Post<S>
         ensures { scratch_of result ≡ scratch }
     {
-        Post { scratch }
+        Post {
+            scratch,
+            share: None,
+        }
     }
 }

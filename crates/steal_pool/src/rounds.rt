@@ -5,6 +5,7 @@ ghost use Rattle.steal_pool.specs.Work.{AllServe};
 use crate::blocks::Blocks;
 use crate::post::Post;
 use crate::serial::run_all;
+use crate::shares::run_shares;
 use crate::work::Work;
 use ann_shelf::{Gate, NoMemory};
 use std::alloc::Global;
@@ -15,6 +16,8 @@ use std::thread::Threads;
 pub enum Way {
     /// One task after another, in the caller's thread.
     Serial,
+    /// One fixed share of the tasks for each post, in threads of `rayon`.
+    Shares,
 }
 
 /// A pool of 1 to 64 workers, which runs rounds.
@@ -54,6 +57,7 @@ pub trait Rounds {
     {
         let blocks = match self.way() {
             Way::Serial => run_all(alloc, work, &mut posts[0].scratch, gate)?,
+            Way::Shares => run_shares(rt, alloc, work, posts, gate)?,
         };
         Ok(Blocks::of(blocks))
     }

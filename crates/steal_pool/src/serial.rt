@@ -4,7 +4,7 @@ ghost use Rattle.std.proofs.Common.{arith};
 
 use crate::blocks::blanks;
 use crate::rounds::{Rounds, Way};
-use crate::share::run_share;
+use crate::tasks::run_tasks;
 use crate::work::Work;
 use ann_shelf::{Gate, NoMemory};
 use std::alloc::Global;
@@ -46,6 +46,6 @@ pub(crate) fn run_all<W: Work, G: Gate + Sync>(
     ensures serves { W.serves work.now scratch.new }
 {
     let mut blocks = blanks(alloc, work.tasks(), work.width() as usize)?;
-    run_share(work, scratch, 0, 0, blocks.as_mut_slice(), gate);
+    run_tasks(work, scratch, 0, 0, blocks.as_mut_slice(), gate);
     Ok(blocks)
 }

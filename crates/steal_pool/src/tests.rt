@@ -1,8 +1,13 @@
+ghost use Rattle.std.specs.Prelude.{◌≡◌, length, IfOk};
+ghost use Rattle.steal_pool.specs.Work.{AllServe};
+
 use crate::post::Post;
+use crate::rayon_rounds::RayonRounds;
 use crate::rounds::Rounds;
 use crate::serial::SerialRounds;
 use crate::work::Work;
-use ann_shelf::FreeGate;
+use ann_shelf::{FreeGate, NoMemory};
+use std::alloc::Global;
 use std::test::Fail;
 
 // Task t wants t and t·t. A scratch that serves is 7.
@@ -31,20 +36,62 @@ impl Work for Squares {
         2
     }
 
-    fn run(&self, scratch: &mut u32, task: u32, out: &mut [u32]) {
+    fn run(&self, _scratch: &mut u32, task: u32, out: &mut [u32]) {
         out.copy_from_slice(&[task, task.wrapping_mul(task)]);
     }
 }
+
+const WANTED: [[u32; 2]; 5] = [[0, 0], [1, 1], [2, 4], [3, 9], [4, 16]];
 
 #[test]
 fn serial_blocks_are_the_wanted_ones(rt: HostRuntime) -> Result<(), Fail> {
     let work = Squares { tasks: 5 };
     let mut posts = [Post::new(7u32)];
-    let blocks = SerialRounds::new().run_round(&rt, rt.alloc(), &work, &mut posts, &FreeGate)?;
-    let wanted = [[0, 0], [1, 1], [2, 4], [3, 9], [4, 16]];
+    let mut pool = SerialRounds::new();
+    assert!(rt; pool.workers() == 1);
+    let blocks = pool.run_round(&rt, rt.alloc(), &work, &mut posts, &FreeGate)?;
     assert!(rt; blocks.count() == 5);
     for task in 0..5u32 {
-        assert!(rt; blocks.get(task) == wanted[task as usize].as_slice());
+        assert!(rt; blocks.get(task) == WANTED[task as usize].as_slice());
+    }
+    Ok(())
+}
+
+#[test]
+fn rayon_blocks_of_three_workers_are_the_wanted_ones(rt: HostRuntime) -> Result<(), Fail> {
+    let work = Squares { tasks: 5 };
+    let mut posts = [Post::new(7u32), Post::new(7u32), Post::new(7u32)];
+    let mut pool = RayonRounds::new(3);
+    assert!(rt; pool.workers() == 3);
+    let blocks = pool.run_round(&rt, rt.alloc(), &work, &mut posts, &FreeGate)?;
+    assert!(rt; blocks.count() == 5);
+    for task in 0..5u32 {
+        assert!(rt; blocks.get(task) == WANTED[task as usize].as_slice());
+    }
+    Ok(())
+}
+
+// Posts for this many workers.
+fn posts_of(alloc: Global, workers: u32) -> Result<Vec<Post<u32>>, NoMemory>
+    ensures count { IfOk result (λ v. length v.items ≡ workers) }
+    ensures serve { IfOk result (λ v. AllServe (λ s. s ≡ 7) v.items) }
+{
+    let mut posts = Vec::new(alloc);
+    for _ in 0..workers {
+        posts.push(Post::new(7u32))?;
+    }
+    Ok(posts)
+}
+
+#[test]
+fn rayon_blocks_of_many_workers_are_the_wanted_ones(rt: HostRuntime) -> Result<(), Fail> {
+    let work = Squares { tasks: 5 };
+    let mut posts = posts_of(rt.alloc(), 64)?;
+    let mut pool = RayonRounds::new(64);
+    let blocks = pool.run_round(&rt, rt.alloc(), &work, posts.as_mut_slice(), &FreeGate)?;
+    assert!(rt; blocks.count() == 5);
+    for task in 0..5u32 {
+        assert!(rt; blocks.get(task) == WANTED[task as usize].as_slice());
     }
     Ok(())
 }

@@ -5,7 +5,7 @@ use crate::work::Work;
 use ann_shelf::Gate;
 
 // Runs the tasks from `from` on, one for each block. It takes no memory.
-pub(crate) fn run_share<W: Work, G: Gate>(
+pub(crate) fn run_tasks<W: Work, G: Gate>(
     work: &W,
     scratch: &mut W::Scratch,
     worker: u32,

@@ -2,8 +2,8 @@ use Rattle.std.proofs.Common.{◌≡◌, ◌<◌, ◌∙◌, ℕ, List, [], leng
 use Rattle.std.proofs.lemmas.List.{get_or-drop, with_items_is}
 use Rattle.std.proofs.lemmas.List.Elements.{All-set}
 use Rattle.std.specs.Vec.{with_items}
-use Rattle.steal_pool.proofs.Shares.{done_more}
-use Rattle.steal_pool.proofs.share.run_share.Goals as goal
+use Rattle.steal_pool.proofs.Progress.{done_more}
+use Rattle.steal_pool.proofs.tasks.run_tasks.Goals as goal
 
 pub loop-at-preserved : goal.loop-at-preserved
 loop-at-preserved g c =

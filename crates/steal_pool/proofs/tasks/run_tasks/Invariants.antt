@@ -1,5 +1,5 @@
 use Rattle.std.proofs.Common.{◌≡◌, map, take, drop, length, All}
-use Rattle.steal_pool.proofs.share.run_share.Given as goal
+use Rattle.steal_pool.proofs.tasks.run_tasks.Given as goal
 
 abbrev pub invariant-loop-at : goal.invariant-loop-at
 invariant-loop-at g l = record {

@@ -1,0 +1,85 @@
+-- What of a round is done so far.
+use Rattle.std.proofs.Common.{◌≡◌, ◌≢◌, ◌<◌, ◌≤◌, ◌+◌, ◌*◌, ◌/◌, ◌∙◌, ℕ, List, [], ◌∷◌, ◌++◌, map, take, drop, length, get_or, set, ap, sym, subst, arith, Vec, Global}
+use mathlib.Core.Logic.{dite}
+use native.Mathlib.Decide.{ℕ_discrete}
+use Rattle.std.proofs.Math.Nat.{div-mul-le_self, div-le_of_le-mul, mul-le-mul_right, mul-div_cancel_left}
+use Rattle.std.proofs.lemmas.List.{map-set, map-append, take_more, take_more_set, length-map, length-set, length-take-le, drop-take, take-take, take-append-drop, get_or-set_same, get_or-set_other}
+use Rattle.std.proofs.lemmas.Nat.{le-div}
+use Rattle.std.proofs.lemmas.List.Elements.{All-set}
+use Rattle.steal_pool.specs.declared.post.Post.{Post}
+use Rattle.steal_pool.specs.Shares.{share_start, IsShare, EachBelow, EachFrom}
+use Rattle.steal_pool.specs.Work.{scratch_of, AllServe}
+
+-- one block more stands as it is wanted
+pub done_more : {X : Type 0} (f : X → List ℕ) (xs : List X) (ws : List (List ℕ)) (k : ℕ) (y : X) → k < length xs → k < length ws
+    → take k (map f xs) ≡ take k ws → f y ≡ get_or ws k [] → take (k + 1) (map f (set xs k y)) ≡ take (k + 1) ws
+done_more f xs ws k y lt lt' done is =
+    let lt'' : k < length (map f xs) = omega (arith, length-map xs f) in
+    ap (take (k + 1)) (map-set f xs k y)
+    ∙ take_more_set (map f xs) k (f y) lt''
+    ∙ ap (λ (l : List (List ℕ)). l ++ f y ∷ []) done
+    ∙ ap (λ (z : List ℕ). take k ws ++ z ∷ []) is
+    ∙ sym (take_more ws k [] lt')
+
+-- a share begins where the one before it ends, or before that
+pub starts_rise : (m w i : ℕ) → 0 < w → share_start m w i ≤ share_start m w (i + 1)
+starts_rise m w i pos =
+    let le : i * m ≤ (i + 1) * m = mul-le-mul_right m (omega arith) in
+    let below : i * m / w * w ≤ i * m = div-mul-le_self (i * m) w in
+    le-div (i * m / w) ((i + 1) * m) w pos (omega arith)
+
+pub starts_within : (m w i : ℕ) → i ≤ w → share_start m w i ≤ m
+starts_within m w i le = div-le_of_le-mul w (mul-le-mul_right m le)
+
+-- the shares are all of the tasks
+pub starts_at_none : (m w : ℕ) → 0 < w → share_start m w 0 ≡ 0
+starts_at_none m w pos =
+    let le : share_start m w 0 ≤ 0 = div-le_of_le-mul w (omega arith) in omega arith
+
+pub ends_at_all : (m w : ℕ) → 0 < w → share_start m w w ≡ m
+ends_at_all m w pos = mul-div_cancel_left m pos
+
+-- what stands at the front, and the part after it
+pub take_part : {X : Type 0} (a n : ℕ) (xs : List X) → take a xs ++ take n (drop a xs) ≡ take (a + n) xs
+take_part a n xs =
+    ap (λ l. l ++ take n (drop a xs)) (sym (take-take a (a + n) xs (omega arith)))
+    ∙ ap (λ l. take a (take (a + n) xs) ++ l) (sym (drop-take a n xs))
+    ∙ take-append-drop a (take (a + n) xs)
+
+-- the blocks of the shares before a worker's, and its share
+pub gathered : (want : List (List ℕ)) (w n : ℕ) (old new : List (Vec ℕ Global)) → map (λ y. y.items) old ≡ take (share_start (length want) w n) want
+    → IsShare (length want) w n new → map (λ y. y.items) new ≡ take (length new) (drop (share_start (length want) w n) want)
+    → map (λ y. y.items) (old ++ new) ≡ take (share_start (length want) w (n + 1)) want
+gathered want w n old new before share is =
+    let s : ℕ = share_start (length want) w n in
+    map-append (λ (y : Vec ℕ Global). y.items) old new
+    ∙ ap (λ (l : List (List ℕ)). l ++ map (λ (y : Vec ℕ Global). y.items) new) before
+    ∙ ap (λ (l : List (List ℕ)). take s want ++ l) is
+    ∙ take_part s (length new) want
+    ∙ ap (λ (k : ℕ). take k want) share
+
+pub share_fits : (want : List (List ℕ)) (w n : ℕ) (old new : List (Vec ℕ Global)) → n < w → map (λ y. y.items) old ≡ take (share_start (length want) w n) want
+    → IsShare (length want) w n new → length old + length new ≤ length want
+share_fits want w n old new lt before share =
+    let m : ℕ = length want in
+    let le : share_start m w n ≤ m = starts_within m w n (omega arith) in
+    let le' : share_start m w (n + 1) ≤ m = starts_within m w (n + 1) (omega arith) in
+    let is : length old ≡ share_start m w n = sym (length-map old (λ (y : Vec ℕ Global). y.items)) ∙ ap length before ∙ length-take-le (share_start m w n) want le in
+    omega (arith, is, share)
+
+-- a post that changes keeps what is true of the others
+pub below_set : {S : Type 0} (P : ℕ → Post S → Type 0) (posts : List (Post S)) (n : ℕ) (q : Post S) → P n q → EachBelow n P posts → EachBelow (n + 1) P (set posts n q)
+below_set P posts n q here below i d lt lt' =
+    let len : i < length posts = omega (arith, length-set posts n q) in
+    dite (ℕ_discrete i n)
+    (λ (is : i ≡ n). subst (λ (k : ℕ). P k (get_or (set posts n q) k d)) (sym is) (subst (P n) (sym (get_or-set_same posts n q d (omega (arith, is, len)))) here))
+    (λ (ne : i ≢ n). subst (P i) (sym (get_or-set_other posts n i q d ne)) (below i d (omega (arith, ne, lt)) len))
+
+pub from_set : {S : Type 0} (P : ℕ → Post S → Type 0) (posts : List (Post S)) (n : ℕ) (q : Post S) → EachFrom n P posts → EachFrom (n + 1) P (set posts n q)
+from_set P posts n q from i d le lt =
+    let len : i < length posts = omega (arith, length-set posts n q) in
+    let ne : i ≢ n = omega arith in
+    subst (P i) (sym (get_or-set_other posts n i q d ne)) (from i d (omega arith) len)
+
+pub serve_set : {S : Type 0} (P : S → Type 0) (posts : List (Post S)) (n : ℕ) (q : Post S) → P (scratch_of q) → AllServe P posts → AllServe P (set posts n q)
+serve_set P posts n q here all = All-set (λ p. P (scratch_of p)) posts n q here all

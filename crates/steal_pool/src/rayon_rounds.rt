@@ -1,0 +1,42 @@
+//! Many workers, a fixed share for each.
+ghost use Rattle.std.specs.Prelude.{◌≡◌, ◌<◌, ◌≤◌};
+
+use crate::rounds::{Rounds, Way};
+
+/// Workers that run one fixed share of the tasks each, by `rayon`'s `par_for_each_mut` over the posts.
+///
+/// Of `m` tasks and `w` workers, worker `i` runs the tasks from `i·m/w` to `(i+1)·m/w`, rounded down, the upper
+/// bound excluded. `rayon` may run so few items on one thread.
+#[derive(Drop)]
+pub struct RayonRounds {
+    workers: u32,
+    ghost in_range: { (0 < workers) × (workers ≤ 64) },
+}
+
+impl RayonRounds {
+    ghost use Rattle.steal_pool.specs.Pools.{rayon_workers};
+
+    /// A pool of 1 to 64 workers. Takes no memory.
+    pub fn new(workers: u32) -> RayonRounds
+        requires { (0 < workers) × (workers ≤ 64) }
+        ensures { rayon_workers result ≡ workers }
+    {
+        RayonRounds { workers }
+    }
+}
+
+impl Rounds for RayonRounds {
+    ghost use Rattle.steal_pool.specs.Pools.{rayon_workers};
+
+    ghost count = { rayon_workers };
+
+    fn workers(&self) -> u32 {
+        self.workers
+    }
+
+    fn way(&self) -> Way {
+        Way::Shares
+    }
+
+    ghost few = { λ p. p.in_range };
+}
