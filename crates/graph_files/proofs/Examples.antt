@@ -1,12 +1,12 @@
 -- Small indexes and their files, computed.
-use Rattle.std.proofs.Common.{◌≡◌, ◌≢◌, ℕ, zero, suc, ◌<◌, true, List, [], ◌∷◌, map, sym, subst, get_or, refl, inl, arith, lit<, lit≤}
+use Rattle.std.proofs.Common.{◌≡◌, ◌≢◌, ℕ, zero, suc, ◌<◌, true, List, [], ◌∷◌, map, sym, subst, get_or, refl, inl, arith, lit<, lit≤, nat_lt}
 use Rattle.std.specs.List.{IsDistinct, enumerate_from}
 use Rattle.std.proofs.lemmas.List.Elements.{All-nil, All-cons}
 use Rattle.ann_defs.specs.Graph.{has, IsGoodRow, AreGoodRows}
 use Rattle.graph_files.specs.Index.{Contents, flat_contents, text_of, edges_of, longest_of}
 use Rattle.graph_files.specs.Flat.{Flat}
 use Rattle.graph_files.specs.Layers.{Layered}
-use Rattle.graph_files.specs.WellFormed.{IsRowOf, IsFurtherLayer, IsWellFormed}
+use Rattle.graph_files.specs.WellFormed.{IsRowIn, IsFurtherLayer, IsWellFormed}
 use Rattle.graph_files.proofs.Totals.{entries_of}
 use Rattle.graph_files.proofs.FlatIndex.{flat_well_formed, flat_rows}
 
@@ -73,14 +73,17 @@ four_good = record { count = refl; good = four_good_at }
 pub four_well_formed : IsWellFormed four_points
 four_well_formed = flat_well_formed 1 4 1 2 0 four_rows four_good (lit≤ tt) (lit≤ tt) (lit≤ tt) (lit≤ tt) (lit≤ tt) (lit≤ tt) (lit< tt) (inl refl)
 
-further : IsFurtherLayer 1 1 (0 ∷ 1 ∷ 2 ∷ 3 ∷ []) ((1, []) ∷ [])
+abbrev own_row : ℕ × List ℕ → Type 0
+own_row e = IsRowIn (λ v. has (1 ∷ []) v) 1 e.0 e.1
+
+further : IsFurtherLayer 1 1 (λ v. nat_lt v 4) ((1, []) ∷ [])
 unfolding IsDistinct
 further = record {
   some = lit≤ tt;
   ascend = λ j k less lt. absurd (omega arith);
-  inside = All-cons (λ v. has (0 ∷ 1 ∷ 2 ∷ 3 ∷ []) v ≡ true) 1 [] refl (All-nil (λ v. has (0 ∷ 1 ∷ 2 ∷ 3 ∷ []) v ≡ true));
+  inside = All-cons (λ v. nat_lt v 4 ≡ true) 1 [] refl (All-nil (λ v. nat_lt v 4 ≡ true));
   has_start = refl;
-  rows = All-cons (IsRowOf (1 ∷ []) 1) (1, []) [] (record { inside = All-nil (λ v. has (1 ∷ []) v ≡ true); distinct = tt; others = All-nil (λ v. v ≢ 1); short = lit≤ tt }) (All-nil (IsRowOf (1 ∷ []) 1));
+  rows = All-cons own_row (1, []) [] (record { inside = All-nil (λ v. has (1 ∷ []) v ≡ true); distinct = tt; others = All-nil (λ v. v ≢ 1); short = lit≤ tt }) (All-nil own_row);
 }
 
 pub two_well_formed : IsWellFormed two_layers

@@ -1,8 +1,8 @@
 -- An index with one layer of good rows is well formed, and layer 0 of a well-formed index has good rows.
 use Rattle.std.proofs.Common.{◌≡◌, ℕ, zero, suc, ◌+◌, ◌<◌, ◌≤◌, true, List, [], length, get_or, refl, sym, ap, subst, ◌∙◌, inl, inr, arith, lit≤}
-use Rattle.std.specs.Prelude.{◌==◌, ◌⊎◌}
+use Rattle.std.specs.Prelude.{nat_lt, ◌==◌, ◌⊎◌}
 use Rattle.std.specs.List.{range_with_len, enumerate_from}
-use Rattle.std.proofs.lemmas.Bool.{eq-eqb}
+use Rattle.std.proofs.lemmas.Bool.{lt-ltb, ltb-true}
 use Rattle.std.proofs.lemmas.List.{length-map, get_or-map}
 use Rattle.std.proofs.lemmas.List.Elements.{All-weaker, All-from_get_or, All-get_or}
 use Rattle.std.proofs.lemmas.List.Folds.{list_any_at}
@@ -11,47 +11,35 @@ use Rattle.ann_defs.specs.Graph.{has, IsGoodRow, AreGoodRows}
 use Rattle.ann_defs.specs.Ordered.{Has}
 use Rattle.ann_defs.proofs.Members.{has_true}
 use Rattle.graph_files.specs.Index.{Contents, layer_ids, layer_rows, flat_contents}
-use Rattle.graph_files.specs.WellFormed.{layers_fit, base_bound, base_of, IsRowOf, AreRowsOf, IsWellFormed}
+use Rattle.graph_files.specs.WellFormed.{layers_fit, base_bound, base_of, IsRowIn, AreRowsOf, IsWellFormed}
 use Rattle.graph_files.proofs.LayerLists.{ids_enumerate}
 
--- the ids below n are those of the range
-pub has_range : (n v : ℕ) → v < n → has (range_with_len 0 n) v ≡ true
-has_range n v lt =
-    list_any_at (λ x. x == v) (range_with_len 0 n) v 0 (subst (λ k. v < k) (sym (length-range_with_len 0 n)) lt)
-    (eq-eqb (get_or (range_with_len 0 n) v 0) v (get_or-range_with_len 0 n v 0 lt ∙ omega arith))
-
-within : (a n v : ℕ) → Has (range_with_len a n) v → v < a + n
-within a zero v h = absurd h
-within a (suc n) v h = elim h as (λ _. v < a + suc n) [ inl e ↦ omega arith | inr m ↦ let lt = within (a + 1) n v m in omega arith ]
-
-pub range_has : (n v : ℕ) → has (range_with_len 0 n) v ≡ true → v < n
-range_has n v h = let lt = within 0 n v (has_true (range_with_len 0 n) v h) in omega arith
-
-module _ (n bound : ℕ) (ids : List ℕ) (are : ids ≡ range_with_len 0 n) (u : ℕ) (row : List ℕ) where
-  pub row_of_good : IsGoodRow n bound u row → IsRowOf ids bound (u, row)
+module _ (n bound u : ℕ) (row : List ℕ) where
+  pub row_of_good : IsGoodRow n bound u row → IsRowIn (λ v. nat_lt v n) bound u row
   row_of_good good = record {
-    inside = All-weaker (λ v. v < n) (λ v. has ids v ≡ true) (λ v lt. subst (λ xs. has xs v ≡ true) (sym are) (has_range n v lt)) row good.inside;
+    inside = All-weaker (λ v. v < n) (λ v. nat_lt v n ≡ true) (λ v lt. lt-ltb v n lt) row good.inside;
     distinct = good.distinct;
     others = good.others;
     short = good.short;
   }
 
-  pub good_of_row : IsRowOf ids bound (u, row) → IsGoodRow n bound u row
+  pub good_of_row : IsRowIn (λ v. nat_lt v n) bound u row → IsGoodRow n bound u row
   good_of_row is = record {
-    inside = All-weaker (λ v. has ids v ≡ true) (λ v. v < n) (λ v h. range_has n v (subst (λ xs. has xs v ≡ true) are h)) row is.inside;
+    inside = All-weaker (λ v. nat_lt v n ≡ true) (λ v. v < n) (λ v h. ltb-true v n h) row is.inside;
     distinct = is.distinct;
     others = is.others;
     short = is.short;
   }
 
-pub flat_rows : (n bound : ℕ) (rows : List (List ℕ)) → AreGoodRows n bound rows → AreRowsOf bound (enumerate_from 0 rows)
+abbrev row_in : ℕ → ℕ → ℕ × List ℕ → Type 0
+row_in n bound e = IsRowIn (λ v. nat_lt v n) bound e.0 e.1
+
+pub flat_rows : (n bound : ℕ) (rows : List (List ℕ)) → AreGoodRows n bound rows → AreRowsOf (λ v. nat_lt v n) bound (enumerate_from 0 rows)
 flat_rows n bound rows good =
-    let ids : layer_ids (enumerate_from 0 rows) ≡ range_with_len 0 n = ids_enumerate 0 rows ∙ ap (range_with_len 0) good.count in
-    All-from_get_or (IsRowOf (layer_ids (enumerate_from 0 rows)) bound) (enumerate_from 0 rows) (0, []) (λ i lt.
+    All-from_get_or (row_in n bound) (enumerate_from 0 rows) (0, []) (λ i lt.
     let below : i < length rows = subst (λ k. i < k) (length-enumerate_from 0 rows) lt in
     let here : get_or (enumerate_from 0 rows) i (0, []) ≡ (i, get_or rows i []) = get_or-enumerate_from 0 rows i (0, []) below ∙ ap (λ k. (k, get_or rows i [])) (omega arith) in
-    subst (IsRowOf (layer_ids (enumerate_from 0 rows)) bound) (sym here)
-    (row_of_good n bound (layer_ids (enumerate_from 0 rows)) ids i (get_or rows i []) (good.good i (subst (λ k. i < k) good.count below))))
+    subst (row_in n bound) (sym here) (row_of_good n bound i (get_or rows i []) (good.good i (subst (λ k. i < k) good.count below))))
 
 flat_kind : (kind degree : ℕ) → (kind ≡ 1) ⊎ (kind ≡ 3) → (1 ≤ kind) × (kind ≤ 3) × (layers_fit kind 1 ≡ true) × (base_bound kind degree ≡ degree)
 flat_kind kind degree which = elim which as (λ _. (1 ≤ kind) × (kind ≤ 3) × (layers_fit kind 1 ≡ true) × (base_bound kind degree ≡ degree)) [
@@ -89,6 +77,6 @@ base_good i is =
           let e : ℕ × List ℕ = get_or base u (0, []) in
           let own : e.0 ≡ u = sym (get_or-map (λ (x : ℕ × List ℕ). x.0) base u (0, []) 0 at) ∙ ap (λ ids. get_or ids u 0) is.base ∙ get_or-range_with_len 0 i.count u 0 lt ∙ omega arith in
           let here : get_or (layer_rows base) u [] ≡ e.1 = get_or-map (λ (x : ℕ × List ℕ). x.1) base u (0, []) [] at in
-          let row : IsRowOf (layer_ids base) bound e = All-get_or (IsRowOf (layer_ids base) bound) base u (0, []) at is.rows in
-          subst (λ r. IsGoodRow i.count bound u r) (sym here) (subst (λ k. IsGoodRow i.count bound k e.1) own (good_of_row i.count bound (layer_ids base) is.base e.0 e.1 row));
+          let row : row_in i.count bound e = All-get_or (row_in i.count bound) base u (0, []) at is.rows in
+          subst (λ r. IsGoodRow i.count bound u r) (sym here) (subst (λ k. IsGoodRow i.count bound k e.1) own (good_of_row i.count bound e.0 e.1 row));
     }

@@ -13,29 +13,29 @@ layers_fit kind layers = if kind == 2 then nat_lt 0 layers && nat_lt layers 17 e
 abbrev pub base_bound : ℕ → ℕ → ℕ
 base_bound kind degree = if kind == 2 then degree + degree else degree
 
--- an id with a row that a layer of these ids may have: at most `bound` distinct ids of the layer other than its own
-pub record IsRowOf (ids : List ℕ) (bound : ℕ) (e : ℕ × List ℕ) : Type 0 where
-  pub inside : All (λ v. has ids v ≡ true) e.1
-  pub distinct : IsDistinct nat_eq e.1
-  pub others : All (λ v. v ≢ e.0) e.1
-  pub short : length e.1 ≤ bound
+-- a row of a layer that holds these ids: at most `bound` distinct ids of the layer other than its own
+pub record IsRowIn (held : ℕ → Bool) (bound own : ℕ) (row : List ℕ) : Type 0 where
+  pub inside : All (λ v. held v ≡ true) row
+  pub distinct : IsDistinct nat_eq row
+  pub others : All (λ v. v ≢ own) row
+  pub short : length row ≤ bound
 
--- the rows of a layer
-abbrev pub AreRowsOf : ℕ → List (ℕ × List ℕ) → Type 0
-AreRowsOf bound layer = All (IsRowOf (layer_ids layer) bound) layer
+-- the rows of a layer that holds these ids
+abbrev pub AreRowsOf : (ℕ → Bool) → ℕ → List (ℕ × List ℕ) → Type 0
+AreRowsOf held bound layer = All (λ e. IsRowIn held bound e.0 e.1) layer
 
--- a further layer over one of the ids `below`
-pub record IsFurtherLayer (start degree : ℕ) (below : List ℕ) (layer : List (ℕ × List ℕ)) : Type 0 where
+-- a layer over one that holds the ids `below`
+pub record IsFurtherLayer (start degree : ℕ) (below : ℕ → Bool) (layer : List (ℕ × List ℕ)) : Type 0 where
   pub some : 1 ≤ length layer
   pub ascend : Ascends (layer_ids layer)
-  pub inside : All (λ v. has below v ≡ true) (layer_ids layer)
+  pub inside : All (λ v. below v ≡ true) (layer_ids layer)
   pub has_start : has (layer_ids layer) start ≡ true
-  pub rows : AreRowsOf degree layer
+  pub rows : AreRowsOf (λ v. has (layer_ids layer) v) degree layer
 
 -- further layers, each over the one before
-abbrev pub AreFurtherLayers : ℕ → ℕ → List ℕ → List (List (ℕ × List ℕ)) → Type 0
+abbrev pub AreFurtherLayers : ℕ → ℕ → (ℕ → Bool) → List (List (ℕ × List ℕ)) → Type 0
 AreFurtherLayers start degree below [] = Unit {0}
-AreFurtherLayers start degree below (layer ∷ layers) = IsFurtherLayer start degree below layer × AreFurtherLayers start degree (layer_ids layer) layers
+AreFurtherLayers start degree below (layer ∷ layers) = IsFurtherLayer start degree below layer × AreFurtherLayers start degree (λ v. has (layer_ids layer) v) layers
 
 -- layer 0
 abbrev pub base_of : Contents → List (ℕ × List ℕ)
@@ -50,8 +50,8 @@ pub record IsWellFormed (i : Contents) : Type 0 where
   pub start : i.start < i.count
   pub layers : layers_fit i.kind (length i.layers) ≡ true
   pub base : layer_ids (base_of i) ≡ range_with_len 0 i.count
-  pub rows : AreRowsOf (base_bound i.kind i.degree) (base_of i)
-  pub upper : AreFurtherLayers i.start i.degree (range_with_len 0 i.count) (drop 1 i.layers)
+  pub rows : AreRowsOf (λ v. nat_lt v i.count) (base_bound i.kind i.degree) (base_of i)
+  pub upper : AreFurtherLayers i.start i.degree (λ v. nat_lt v i.count) (drop 1 i.layers)
 
 -- the greatest degree of a kind
 abbrev pub greatest_degree : ℕ → ℕ

@@ -1,9 +1,9 @@
 //! A layer above the first.
 ghost use Rattle.std.specs.Prelude.{◌≡◌, ◌+◌, ◌*◌, ◌≤◌, ◌<◌, true, false, [], IfOk, length, map, vec_len, MatchOption};
-ghost use Rattle.std.specs.List.{sum_by};
+ghost use Rattle.std.specs.List.{sum_by, zip};
 ghost use Rattle.ann_defs.specs.Graph.{has};
 ghost use Rattle.graph_files.specs.Index.{layer_ids, layer_rows, longest_in};
-ghost use Rattle.graph_files.specs.Layers.{Ascends, Layered, layer_row, place_in, with_layer_row};
+ghost use Rattle.graph_files.specs.Layers.{AreLayered, Ascends, Layered, layer_row, place_in, with_layer_row};
 
 use crate::{FlatGraph, Rows};
 use ann_shelf::NoMemory;
@@ -32,7 +32,7 @@ impl Model for Layer {
 }
 
 // Where an id stands among ids that ascend.
-fn find(ids: &[u32], id: u32) -> Option<usize>
+pub(crate) fn find(ids: &[u32], id: u32) -> Option<usize>
     requires { Ascends ids.now }
     ensures { MatchOption result (has ids.now id ≡ false) (λ i. (i < length ids.now) × (i ≡ place_in ids.now id) × (has ids.now id ≡ true)) }
 {
@@ -98,6 +98,14 @@ impl Layer {
         ensures { result ≡ longest_in (layer_rows self.now.entries) }
     {
         self.graph.longest()
+    }
+
+    // The layer of these ids with the rows of a graph, in the same order.
+    pub(crate) fn of(ids: Vec<u32>, graph: FlatGraph) -> Layer
+        requires { AreLayered ids.items graph.rows }
+        ensures { result ≡ record { width = graph.width; entries = zip ids.items graph.rows } }
+    {
+        Layer { ids, graph }
     }
 
     // The rows, in the order of the ids.

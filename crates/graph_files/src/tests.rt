@@ -103,3 +103,87 @@ fn two_layers_are_written_in_80_bytes(rt: HostRuntime) -> Result<(), Fail> {
     );
     Ok(())
 }
+
+// What reading a file of these bytes answers in place of an index.
+fn fault_of(alloc: Global, bytes: &[u8]) -> Option<IndexFault> {
+    let mut shelf = MemShelf::new(alloc);
+    if shelf.put("index", bytes).is_err() {
+        return Some(IndexFault::NoMemory);
+    }
+    match read_index(alloc, &mut shelf, "index") {
+        Ok(_) => None,
+        Err(fault) => Some(fault),
+    }
+}
+
+#[test]
+fn an_index_is_read_and_written_back(rt: HostRuntime) -> Result<(), Fail> {
+    let mut shelf = MemShelf::new(rt.alloc());
+    shelf.put("index", &FOUR_POINTS)?;
+    let index = read_index(rt.alloc(), &mut shelf, "index")?;
+    // The file, its end, and the end once more.
+    assert_eq!(rt; shelf.calls(), 3);
+    assert_eq!(rt; index.base.count(), 4);
+    assert!(rt; write_index(&mut shelf, "copy", &index).is_ok());
+    assert_eq!(rt;
+        shelf.bytes("copy").ok_or("no file")?,
+        FOUR_POINTS.as_slice()
+    );
+    Ok(())
+}
+
+#[test]
+fn a_broken_rule_is_named_with_its_place(rt: HostRuntime) {
+    let alloc = rt.alloc();
+    for (place, byte, rule) in [
+        (0, 81, IndexRule::Magic),
+        (4, 2, IndexRule::Version),
+        (8, 2, IndexRule::Kind),
+        (12, 0, IndexRule::ZeroCount),
+        (16, 0, IndexRule::ZeroDim),
+        (20, 0, IndexRule::Degree),
+        (24, 4, IndexRule::Start),
+        (28, 2, IndexRule::Layers),
+        (40, 3, IndexRule::Degree),
+        (48, 0, IndexRule::DoubleEdge),
+        (48, 1, IndexRule::SelfEdge),
+        (48, 4, IndexRule::IdRange),
+    ] {
+        let mut bytes = FOUR_POINTS;
+        if let Some(cell) = bytes.get_mut(place) {
+            *cell = byte;
+        }
+        assert_eq!(rt;
+            fault_of(alloc, &bytes),
+            Some(IndexFault::Malformed {
+                place: place as u64,
+                rule
+            }),
+            "{byte} at {place}"
+        );
+    }
+    assert_eq!(rt;
+        fault_of(alloc, &FOUR_POINTS[..50]),
+        Some(IndexFault::Malformed {
+            place: 50,
+            rule: IndexRule::Short
+        })
+    );
+    assert_eq!(rt;
+        fault_of(alloc, &FOUR_POINTS[..31]),
+        Some(IndexFault::Malformed {
+            place: 31,
+            rule: IndexRule::ShortHeader
+        })
+    );
+    let mut longer = [0u8; 69];
+    longer[..68].copy_from_slice(&FOUR_POINTS);
+    assert_eq!(rt;
+        fault_of(alloc, &longer),
+        Some(IndexFault::Malformed {
+            place: 68,
+            rule: IndexRule::Trailing
+        })
+    );
+    assert_eq!(rt; fault_of(alloc, &FOUR_POINTS), None);
+}

@@ -9,12 +9,10 @@ ghost use Rattle.graph_files.specs.View.{kind_code, contents};
 ghost use Rattle.graph_files.specs.WellFormed.{IsWellFormed};
 ghost use Rattle.graph_files.specs.Writing.{pending, Adds, AddsSome};
 
+use crate::header::MAGIC;
 use crate::pieces::Pieces;
 use crate::{FlatGraph, Index, Kind, Layer};
 use ann_shelf::{Shelf, Slip};
-
-// The text PANN as a number.
-pub(crate) const MAGIC: u32 = 1313751376;
 
 // A kind's code in a file.
 fn code_of(kind: Kind) -> u32

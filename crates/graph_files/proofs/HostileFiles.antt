@@ -1,0 +1,72 @@
+-- Files with one word changed, and files that are cut: the first broken rule and its place, computed.
+use Rattle.std.proofs.Common.{◌≡◌, ℕ, ◌+◌, List, [], ◌∷◌, ◌++◌, take, drop, Option, Some, None, Ok, Err, nat_lt, refl, rules}
+use Rattle.std.specs.Int.{w32, to_le_bytes}
+use Rattle.std.specs.List.{AllByRecursion, range_with_len}
+use Rattle.ann_shelf.specs.declared.slip.Quantity.TheVariants.{Count, Dim, Degree as DegreeOf, Words}
+use Rattle.graph_files.specs.declared.fault.IndexFault.{IndexFault}
+use Rattle.graph_files.specs.declared.fault.IndexFault.TheVariants.{Malformed, TooLarge}
+use Rattle.graph_files.specs.declared.fault.IndexRule.TheVariants.{ShortHeader, Magic, Version, Kind, ZeroCount, ZeroDim, Degree, Start, Layers, LayerIds, IdRange, SelfEdge, DoubleEdge, Short, Trailing}
+use Rattle.graph_files.specs.Grammar.{verdict, index_in, body_at, header_at, layers_at, layer_at, rows_at, row_at, ids_at, layer_ids_at}
+
+-- the word at a byte is another
+abbrev edited : List ℕ → ℕ → ℕ → List ℕ
+edited file at word = take at file ++ to_le_bytes w32 word ++ drop (at + 4) file
+
+abbrev four_points : List ℕ
+four_points =
+    80 ∷ 65 ∷ 78 ∷ 78 ∷ 1 ∷ 0 ∷ 0 ∷ 0 ∷ 1 ∷ 0 ∷ 0 ∷ 0 ∷ 4 ∷ 0 ∷ 0 ∷ 0 ∷ 1 ∷ 0 ∷ 0 ∷ 0 ∷ 2 ∷ 0 ∷ 0 ∷ 0 ∷ 0 ∷ 0 ∷ 0 ∷ 0 ∷ 1 ∷ 0 ∷ 0 ∷ 0 ∷ 1 ∷ 0 ∷ 0 ∷ 0 ∷ 1 ∷ 0 ∷ 0 ∷ 0 ∷ 2 ∷ 0 ∷ 0 ∷ 0 ∷ 0 ∷ 0 ∷ 0 ∷ 0 ∷ 2 ∷ 0 ∷ 0 ∷ 0 ∷ 1 ∷ 0 ∷ 0 ∷ 0 ∷ 1 ∷ 0 ∷ 0 ∷ 0 ∷ 1 ∷ 0 ∷ 0 ∷ 0 ∷ 1 ∷ 0 ∷ 0 ∷ 0 ∷ []
+
+-- a further layer over four ids: its count, the id 1, an empty row
+abbrev one_more : List ℕ
+one_more = 1 ∷ 0 ∷ 0 ∷ 0 ∷ 1 ∷ 0 ∷ 0 ∷ 0 ∷ 0 ∷ 0 ∷ 0 ∷ 0 ∷ []
+
+-- the word at a byte of the file is this one, and the verdict that
+abbrev Gets : List ℕ → IndexFault → Type 0
+Gets file fault = verdict file ≡ Some fault
+
+sound : verdict four_points ≡ None
+unfolding verdict index_in body_at header_at layers_at layer_at rows_at row_at ids_at layer_ids_at
+sound = refl
+
+trailing : Gets (four_points ++ 0 ∷ []) (Malformed 68 Trailing)
+unfolding verdict index_in body_at header_at layers_at layer_at rows_at row_at ids_at layer_ids_at
+trailing = refl
+
+rows : Gets (edited four_points 48 0) (Malformed 48 DoubleEdge) × Gets (edited four_points 48 1) (Malformed 48 SelfEdge) × Gets (edited four_points 48 4) (Malformed 48 IdRange) × Gets (edited four_points 40 3) (Malformed 40 Degree)
+unfolding verdict index_in body_at header_at layers_at layer_at rows_at row_at ids_at layer_ids_at
+rows = (refl, refl, refl, refl)
+
+header : Gets (81 ∷ drop 1 four_points) (Malformed 0 Magic) × Gets (edited four_points 4 9) (Malformed 4 Version) × Gets (edited four_points 8 4) (Malformed 8 Kind) × Gets (edited four_points 12 0) (Malformed 12 ZeroCount)
+    × Gets (edited four_points 16 0) (Malformed 16 ZeroDim) × Gets (edited four_points 20 0) (Malformed 20 Degree) × Gets (edited four_points 24 4) (Malformed 24 Start) × Gets (edited four_points 28 2) (Malformed 28 Layers)
+unfolding verdict index_in body_at header_at layers_at layer_at rows_at row_at ids_at layer_ids_at
+header = (refl, refl, refl, refl, refl, refl, refl, refl)
+
+large : Gets (edited four_points 12 4194305) (TooLarge Count 4194305 4194304) × Gets (edited four_points 16 2049) (TooLarge Dim 2049 2048) × Gets (edited four_points 20 129) (TooLarge DegreeOf 129 128)
+    × Gets (edited (edited four_points 12 4000000) 20 128) (TooLarge Words 516000000 134217728)
+unfolding verdict index_in body_at header_at layers_at layer_at rows_at row_at ids_at layer_ids_at
+large = (refl, refl, refl, refl)
+
+cut_header : AllByRecursion (λ cut. verdict (take cut four_points) ≡ Some (Malformed cut ShortHeader)) (range_with_len 0 32)
+unfolding verdict index_in body_at header_at layers_at layer_at rows_at row_at ids_at layer_ids_at
+cut_header = search rules
+
+cut_rows : AllByRecursion (λ cut. verdict (take cut four_points) ≡ Some (Malformed cut Short)) (range_with_len 32 36)
+unfolding verdict index_in body_at header_at layers_at layer_at rows_at row_at ids_at layer_ids_at
+cut_rows = search rules
+
+-- a further layer over the ids below 4, whose start is 1
+further_layer : layer_at 1 1 (λ id. nat_lt id 4) 4 12 one_more 0 ≡ Ok (1 ∷ [], [] ∷ [], 12)
+unfolding layer_at rows_at row_at ids_at layer_ids_at
+further_layer = refl
+
+further_count : (layer_at 1 1 (λ id. nat_lt id 4) 4 12 (edited one_more 0 0) 0 ≡ Err (Malformed 0 LayerIds)) × (layer_at 1 1 (λ id. nat_lt id 4) 4 12 (edited one_more 0 5) 0 ≡ Err (Malformed 0 LayerIds))
+unfolding layer_at rows_at row_at ids_at layer_ids_at
+further_count = (refl, refl)
+
+further_ids : (layer_at 1 1 (λ id. nat_lt id 4) 4 12 (edited one_more 4 0) 0 ≡ Err (Malformed 0 LayerIds)) × (layer_at 1 1 (λ id. nat_lt id 4) 4 12 (edited one_more 4 4) 0 ≡ Err (Malformed 4 LayerIds))
+unfolding layer_at rows_at row_at ids_at layer_ids_at
+further_ids = (refl, refl)
+
+further_row : (layer_at 1 1 (λ id. nat_lt id 4) 4 12 (edited one_more 8 2) 0 ≡ Err (Malformed 8 Degree)) × (layer_at 1 1 (λ id. nat_lt id 4) 4 12 (edited one_more 8 1) 0 ≡ Err (Malformed 12 Short))
+unfolding layer_at rows_at row_at ids_at layer_ids_at
+further_row = (refl, refl)

@@ -1,0 +1,132 @@
+-- The text of a well-formed index within the limits is read as this index.
+use Rattle.std.proofs.Common.{◌≡◌, ℕ, zero, suc, ◌+◌, ◌-◌, ◌*◌, ◌^◌, ◌<◌, ◌≤◌, Bool, true, false, not, cond, nat_lt, eqb, List, [], ◌∷◌, ◌++◌, length, take, drop, Option, Some, None, Result, Ok, Err, refl, sym, ap, subst, ◌∙◌, arith, append_assoc, length-append}
+use Rattle.std.specs.List.{range_with_len, enumerate_from, flat_map}
+use Rattle.std.proofs.lemmas.Bool.{le-ltb, eq-eqb, ltb-true}
+use Rattle.std.proofs.lemmas.List.{append-nil, length-map}
+use Rattle.std.proofs.lemmas.List.FromFn.{length-range_with_len}
+use Rattle.graph_files.specs.declared.header.Header.{Header}
+use Rattle.graph_files.specs.declared.fault.IndexFault.TheVariants.{Malformed}
+use Rattle.graph_files.specs.declared.fault.IndexRule.TheVariants.{ShortHeader, Trailing}
+use Rattle.graph_files.specs.Grammar.{◌>>=◌, unless, rows_at, layers_at, end_fault, header_at, body_at, index_in}
+use Rattle.graph_files.specs.Header.{header_in, is_read, form_fault, limit_fault}
+use Rattle.graph_files.specs.Index.{Contents, words, layer_ids, layer_rows, rows_bytes, layer_bytes, layers_bytes, header_words, text_of}
+use Rattle.graph_files.specs.WellFormed.{base_bound, layer_words, IsWellFormed, IsWithinLimits}
+use Rattle.graph_files.proofs.IndexBytes.{text_is}
+use Rattle.graph_files.proofs.IndexLaws.{IsForm, IsSmall, none_of_form, none_of_small, layers_some, number, enumerate_is, bound_small, degree_small, holds_below}
+use Rattle.graph_files.proofs.ReadTexts.{ok_same}
+use Rattle.graph_files.proofs.TextReads.{base_here, layers_here, behind, length-words}
+use Rattle.graph_files.proofs.UpperLoop.{Entries}
+
+module _ (kind count dim degree start : ℕ) (base : Entries) (upper : List Entries) where
+  abbrev index : Contents
+  index = record { kind = kind; count = count; dim = dim; degree = degree; start = start; layers = base ∷ upper }
+
+  abbrev text : List ℕ
+  text = words (header_words index) ++ layers_bytes (base ∷ upper)
+
+  abbrev head : Header
+  head = record { magic = 1313751376; version = 1; kind = kind; count = count; dim = dim; degree = degree; start = start; layers = length (base ∷ upper) }
+
+  module _ (formed : IsWellFormed index) (limits : IsWithinLimits index) (read : is_read kind ≡ true) where
+    few : length (base ∷ upper) < 2 ^ 32
+    few = let some = layers_some kind (length (base ∷ upper)) formed.layers in omega (arith, some.1)
+
+    thin : degree < 2 ^ 32
+    thin = formed.degree.1
+
+    header_is : header_in text ≡ head
+    header_is =
+        let k = number kind (omega (arith, formed.kind.1)) in
+        let n = number count formed.count.1 in
+        let d = number dim formed.dim.1 in
+        let r = number degree formed.degree.1 in
+        let s = number start (omega (arith, formed.start, formed.count.1)) in
+        let l = number (length (base ∷ upper)) few in
+        λ i. record { magic = 1313751376; version = 1; kind = k i; count = n i; dim = d i; degree = r i; start = s i; layers = l i }
+
+    form : IsForm head
+    form = record { magic = refl; version = refl; kind = read; count = formed.count.0; dim = formed.dim.0; degree = formed.degree.0; start = formed.start; layers = formed.layers }
+
+    small : IsSmall head
+    small = record { count = limits.count; dim = limits.dim; degree = limits.degree; words = omega (arith, limits.words) }
+
+    long : 32 ≤ length text
+    long = omega (arith, length-append (words (header_words index)) (layers_bytes (base ∷ upper)), length-words (header_words index))
+
+    header_here : header_at text ≡ Ok head
+    unfolding header_at
+    header_here =
+        ap (λ b. cond b (Err (Malformed (length text) ShortHeader)) (unless (form_fault (header_in text)) (unless (limit_fault (header_in text)) (Ok (header_in text))))) (le-ltb (length text) 32 long)
+        ∙ ap (λ (h : Header). unless (form_fault h) (unless (limit_fault h) (Ok h))) header_is
+        ∙ ap (λ o. unless o (unless (limit_fault head) (Ok head))) (none_of_form head form)
+        ∙ ap (λ o. unless o (Ok head)) (none_of_small head small)
+
+    abbrev rows : List (List ℕ)
+    rows = layer_rows base
+
+    abbrev bound : ℕ
+    bound = base_bound kind degree
+
+    abbrev held : ℕ → Bool
+    held id = nat_lt id count
+
+    abbrev upper_place : ℕ
+    upper_place = 32 + length (rows_bytes rows)
+
+    abbrev end : ℕ
+    end = upper_place + length (flat_map layer_bytes upper)
+
+    after_header : drop 32 text ≡ rows_bytes rows ++ flat_map layer_bytes upper
+    after_header = behind text (words (header_words index)) (layers_bytes (base ∷ upper)) 0 32 refl (omega (arith, length-words (header_words index)))
+
+    after_base : drop upper_place text ≡ flat_map layer_bytes upper ++ []
+    after_base = behind text (rows_bytes rows) (flat_map layer_bytes upper) 32 upper_place after_header refl ∙ sym (append-nil (flat_map layer_bytes upper))
+
+    at_end : drop end text ≡ []
+    at_end = behind text (flat_map layer_bytes upper) [] upper_place end after_base refl
+
+    base_read : rows_at held bound text (range_with_len 0 count) 32 [] ≡ Ok (rows, upper_place)
+    base_read =
+        base_here text held bound base (range_with_len 0 count) 32 (flat_map layer_bytes upper) formed.rows formed.base (λ z m. let lt = ltb-true z count m in omega (arith, formed.count.1)) (bound_small kind degree limits.degree) after_header
+
+    upper_read : layers_at start degree held count (layer_words count bound) text (length (base ∷ upper) - 1) upper_place [] ≡ Ok (upper, end)
+    upper_read =
+        let more : length (base ∷ upper) - 1 ≡ length upper = omega arith in
+        ap (λ k. layers_at start degree held count (layer_words count bound) text k upper_place []) more
+        ∙ layers_here text start degree held count (layer_words count bound) upper [] upper_place [] (holds_below count limits.count) formed.count.1 thin formed.upper limits.words after_base
+
+    abbrev made : List (List ℕ) → List Entries → Contents
+    made base upper = record { kind = kind; count = count; dim = dim; degree = degree; start = start; layers = enumerate_from 0 base ∷ upper }
+
+    ended : end_fault text end ≡ None
+    ended = ap (λ xs. cond (eqb (length xs) 0) None (Some (Malformed end Trailing))) at_end
+
+    whole : made rows upper ≡ index
+    whole =
+        let many : count ≡ length base = sym (length-range_with_len 0 count) ∙ ap length (sym formed.base) ∙ length-map base (λ (e : ℕ × List ℕ). e.0) in
+        let listed : layer_ids base ≡ range_with_len 0 (length base) = formed.base ∙ ap (range_with_len 0) many in
+        ap (λ (l : Entries). record { kind = kind; count = count; dim = dim; degree = degree; start = start; layers = l ∷ upper }) (enumerate_is 0 base listed)
+
+    pub parts_read : index_in (text_of index) ≡ Ok index
+    unfolding index_in body_at
+    parts_read =
+        ap index_in (sym (text_is index))
+        ∙ ap (λ r. r >>= (λ h. body_at h text 32)) header_here
+        ∙ ap (λ r. r >>= (λ b. layers_at start degree held count (layer_words count bound) text (length (base ∷ upper) - 1) b.1 [] >>= (λ u. unless (end_fault text u.1) (Ok (made b.0 u.0))))) base_read
+        ∙ ap (λ r. r >>= (λ u. unless (end_fault text u.1) (Ok (made rows u.0)))) upper_read
+        ∙ ap (λ o. unless o (Ok (made rows upper))) ended
+        ∙ ap (λ i. Ok i) whole
+
+split : (kind count dim degree start : ℕ) (layers : List Entries) → IsWellFormed (record { kind = kind; count = count; dim = dim; degree = degree; start = start; layers = layers })
+    → IsWithinLimits (record { kind = kind; count = count; dim = dim; degree = degree; start = start; layers = layers }) → is_read kind ≡ true
+    → index_in (text_of (record { kind = kind; count = count; dim = dim; degree = degree; start = start; layers = layers })) ≡ Ok (record { kind = kind; count = count; dim = dim; degree = degree; start = start; layers = layers })
+split kind count dim degree start [] formed limits read = let some = layers_some kind 0 formed.layers in absurd (omega (arith, some.0))
+split kind count dim degree start (base ∷ upper) formed limits read = parts_read kind count dim degree start base upper formed limits read
+
+-- the text of a well-formed index is read as this index
+pub index_read : (i : Contents) → IsWellFormed i → IsWithinLimits i → is_read i.kind ≡ true → index_in (text_of i) ≡ Ok i
+index_read i formed limits read = split i.kind i.count i.dim i.degree i.start i.layers formed limits read
+
+-- two indexes with one text are one
+pub text_unique : (i j : Contents) → IsWellFormed i → IsWithinLimits i → is_read i.kind ≡ true → IsWellFormed j → IsWithinLimits j → is_read j.kind ≡ true → text_of i ≡ text_of j → i ≡ j
+text_unique i j formed limits read formed_too limits_too read_too same = ok_same i j (sym (index_read i formed limits read) ∙ ap index_in same ∙ index_read j formed_too limits_too read_too)
