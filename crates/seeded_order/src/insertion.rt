@@ -50,10 +50,10 @@ fn ids_in(alloc: Global, keys: &[(u64, u32)]) -> Result<Vec<u32>, NoMemory>
     Ok(ids)
 }
 
-/// All ids below n by their words of stream 1, and of two equal words the smaller id first: a permutation that the
-/// seed alone decides.
+/// All ids below n by their words of stream 1, and of two equal words the smaller id first.
 ///
-/// Memory: twenty bytes for each id, of which four are kept.
+/// It stands for the random permutation in which DiskANN (Algorithm 3) inserts its points, and the seed alone decides
+/// it. Memory: twenty bytes for each id, of which four are kept.
 pub fn order(alloc: Global, n: u32, seed: u64) -> Result<Vec<u32>, NoMemory>
     requires { (1 ≤ n) × (n ≤ 4194304) }
     ensures { IfOk result (λ v. v.items ≡ seeded_order_of n seed) }
@@ -64,6 +64,8 @@ pub fn order(alloc: Global, n: u32, seed: u64) -> Result<Vec<u32>, NoMemory>
 }
 
 /// Moves an id that stands in the list once to the front; all others keep their order.
+///
+/// One pass up to where the id stood.
 pub fn first_to_front(list: &mut [u32], id: u32)
     requires { count_by (λ x. x == id) list.old ≡ 1 }
     ensures { list.new ≡ to_front id list.old }
@@ -92,7 +94,8 @@ fn ids_by(alloc: Global, n: u32, kind: OrderKind, seed: u64) -> Result<Vec<u32>,
 
 /// The order in which a build inserts its points. The point at which its searches start comes first.
 ///
-/// Memory: that of [`order`], and for the medoid that of [`medoid`].
+/// After DiskANN, whose searches start at the medoid. After a refusal nothing is left. Memory: that of [`order`], and for
+/// the medoid that of [`medoid`].
 pub fn insertion_order_of(
     alloc: Global,
     points: &Points,

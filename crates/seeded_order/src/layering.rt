@@ -8,6 +8,9 @@ use rand_core::utils::NextWord;
 use std::alloc::Global;
 
 /// The level that a word gives: one for every `bits` leading zero bits, at most `max`.
+///
+/// It stands for the draw of a level in HNSW (Algorithm 1, line 4), where `bits` zero bits more are 2 to the power of
+/// `bits` times as rare.
 pub fn level(word: u64, bits: u32, max: u8) -> u8
     requires bits { (1 ≤ bits) × (bits ≤ 8) }
     requires max { max ≤ 15 }
@@ -23,6 +26,8 @@ pub fn level(word: u64, bits: u32, max: u8) -> u8
 }
 
 /// The level of each id below n, by the words of stream 2.
+///
+/// Memory: a byte for each id.
 pub fn levels(alloc: Global, n: u32, seed: u64, bits: u32, max: u8) -> Result<Vec<u8>, NoMemory>
     requires n { (1 ≤ n) × (n ≤ 4194304) }
     requires bits { (1 ≤ bits) × (bits ≤ 8) }
