@@ -1,11 +1,10 @@
 -- What a merge of a batch meets.
-use Rattle.std.proofs.Common.{◌≡◌, ◌≢◌, ℕ, zero, suc, ◌+◌, ◌<◌, ◌≤◌, Bool, true, false, cond, List, [], ◌∷◌, ◌++◌, map, length, get_or, refl, sym, ap, ◌∙◌, subst, inl, inr, arith}
+use Rattle.std.proofs.Common.{◌≡◌, ◌≢◌, ℕ, ◌+◌, ◌<◌, ◌≤◌, Bool, true, false, cond, List, [], ◌∷◌, map, length, refl, sym, ap, ◌∙◌, subst, inl, inr, arith}
 use Rattle.std.specs.Prelude.{◌==◌, ◌⊎◌, nat_eq}
 use Rattle.std.specs.List.{filter, All, IsDistinct, range_with_len}
 use Rattle.std.specs.Ordering.{nat_cmp}
-use Rattle.std.proofs.lemmas.Bool.{eqb-true, eqb-false, eq-eqb, ne_eqb, true≢false}
+use Rattle.std.proofs.lemmas.Bool.{eqb-true, eq-eqb, ne_eqb, true≢false}
 use Rattle.std.proofs.lemmas.List.{length-map}
-use Rattle.std.proofs.lemmas.List.Elements.{Contains-get_or}
 use Rattle.std.specs.List.{list_any}
 use Rattle.std.specs.declared.cmp.Ordering.TheVariants.{Less}
 use Rattle.std.proofs.lemmas.Cmp.{ranked}
@@ -16,16 +15,16 @@ use Rattle.back_edges.proofs.Grouping.{targets_rise}
 use Rattle.ann_defs.specs.Ordered.{Rises}
 use Rattle.ann_defs.proofs.Order.{below_has}
 use Rattle.std.proofs.lemmas.List.FromFn.{get_or-map-range_with_len, length-range_with_len}
-use Rattle.ann_defs.specs.Ordered.{put, ordered}
+use Rattle.ann_defs.specs.Ordered.{ordered}
 use Rattle.ann_defs.specs.Graph.{has, row_in}
 use Rattle.ann_defs.specs.BatchInsert.{Build, new_row_of, row_after, with_new_rows, sources_of, merged_row_of, last_row_of}
 use Rattle.ann_defs.specs.Ordered.{Has}
-use Rattle.ann_defs.proofs.Order.{fold_has, has_fold_new, has-map, All_has, has_from_Contains}
+use Rattle.ann_defs.proofs.Order.{fold_has, has_fold_new, has-map, All_has}
 use Rattle.back_edges.specs.declared.pair.Pair.{Pair}
 use Rattle.ann_defs.specs.Graph.{IsGoodRow, AreGoodRows}
 use Rattle.back_edges.specs.Sources.{sources_in}
 use Rattle.back_edges.specs.Proposing.{pair_cmp, targets_of, proposed_to}
-use Rattle.ann_defs.proofs.Members.{all_from_has, has-mapped, filter_has, has-filter, true_has, has_true}
+use Rattle.ann_defs.proofs.Members.{all_from_has, has-mapped, filter_has, has-filter, true_has}
 use Rattle.back_edges.proofs.Grouping.{nat_order, pair_order}
 use Rattle.vamana_build.specs.Proposed.{proposed, merge_at}
 use Rattle.ann_defs.proofs.GoodGraphs.{new_row_good, row_after_good, with_new_rows_good, sources_inside, sources_distinct, sources_others}

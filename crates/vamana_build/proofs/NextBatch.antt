@@ -1,8 +1,7 @@
 -- The next batch of a build.
-use Rattle.std.proofs.Common.{◌≡◌, ℕ, suc, ◌+◌, ◌<◌, ◌≤◌, Bool, true, false, cond, List, length, Option, Some, None, min, refl, sym, ap, ◌∙◌, subst, arith}
+use Rattle.std.proofs.Common.{◌≡◌, ℕ, ◌+◌, ◌<◌, ◌≤◌, true, false, cond, List, length, Option, Some, None, min, refl, sym, ap, ◌∙◌, subst, arith}
 use Rattle.std.specs.Prelude.{◌↔◌, nat_lt, IsSome, IsNone, IfSome, is_some}
 use Rattle.std.proofs.lemmas.Bool.{ltb-true, lt-ltb, ltb-false, le-ltb, true≢false}
-use Rattle.std.specs.List.{All}
 use Rattle.ann_defs.specs.BatchInsert.{bound_at, total_of}
 use Rattle.beam_search.specs.Room.{Room}
 use Rattle.graph_files.specs.Flat.{Flat}
@@ -10,7 +9,7 @@ use Rattle.prefix_batches.specs.Progress.{Progress}
 use Rattle.steal_pool.specs.Work.{AllServe}
 use Rattle.steal_pool.specs.declared.post.Post.{Post}
 use Rattle.vamana_build.specs.declared.settings.VamanaSettings.{VamanaSettings}
-use Rattle.vamana_build.specs.Builds.{batch_cap, batches_of, start_of, graph_at}
+use Rattle.vamana_build.specs.Builds.{batch_cap, batches_of, start_of}
 use Rattle.vamana_build.specs.Building.{next_of, IsBuilt}
 use Rattle.vamana_build.specs.Changes.{Change, change_at, put_all}
 use Rattle.vamana_build.specs.Serving.{IsServing}

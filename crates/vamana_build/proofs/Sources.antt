@@ -1,23 +1,21 @@
 -- What is proposed is what the definition's sources are.
-use Rattle.std.proofs.Common.{◌≡◌, ◌≢◌, ℕ, zero, suc, ◌+◌, ◌<◌, ◌≤◌, Bool, true, false, cond, List, [], ◌∷◌, ◌++◌, map, length, get_or, refl, sym, ap, ◌∙◌, subst, inl, inr, arith}
-use Rattle.std.specs.Prelude.{◌==◌, ◌⊎◌, ◌&&◌, nat_eq}
-use Rattle.std.specs.List.{filter, All, IsDistinct, range_with_len, flat_map}
-use Rattle.std.specs.declared.cmp.Ordering.{Ordering}
-use Rattle.std.specs.declared.cmp.Ordering.TheVariants.{Less, Equal, Greater}
+use Rattle.std.proofs.Common.{◌≡◌, ℕ, ◌<◌, Bool, cond, List, [], ◌∷◌, ◌++◌, length, refl, sym, ap, ◌∙◌, subst, inl, inr, arith}
+use Rattle.std.specs.Prelude.{◌==◌, ◌⊎◌, ◌&&◌}
+use Rattle.std.specs.List.{All, range_with_len, flat_map}
+use Rattle.std.specs.declared.cmp.Ordering.TheVariants.{Less, Equal}
 use Rattle.std.specs.Ordering.{nat_cmp, ordering_then}
 use Rattle.std.specs.Cmp.{nat_cmp_is}
-use Rattle.std.proofs.lemmas.Cmp.{ranked}
-use Rattle.std.proofs.lemmas.Bool.{eqb-true, eqb-false, eq-eqb, ne_eqb}
+use Rattle.std.proofs.lemmas.Bool.{eqb-true, eq-eqb}
 use Rattle.std.proofs.lemmas.List.FromFn.{get_or-map-range_with_len}
-use Rattle.ann_defs.specs.Ordered.{put, ordered}
+use Rattle.ann_defs.specs.Ordered.{ordered}
 use Rattle.ann_defs.specs.Graph.{has, row_in}
 use Rattle.ann_defs.specs.BatchInsert.{Build, new_row_of, row_after, with_new_rows, sources_of}
 use Rattle.ann_defs.specs.Ordered.{Has, Rises, IsBelow}
-use Rattle.ann_defs.proofs.Order.{Rises-fold_put, same_rising, fold_has, has_fold_new, has-map, below_has, All_has}
+use Rattle.ann_defs.proofs.Order.{Rises-fold_put, same_rising, fold_has, has_fold_new, has-map, All_has}
 use Rattle.back_edges.specs.declared.pair.Pair.{Pair}
 use Rattle.back_edges.specs.Sources.{sources_in}
-use Rattle.back_edges.specs.Proposing.{pair_cmp, targets_of, proposed_to}
-use Rattle.ann_defs.proofs.Members.{has-mapped, has-append, append-has, filter_has, has-filter, has_true, true_has, range_has, and_both, both_and}
+use Rattle.back_edges.specs.Proposing.{pair_cmp, proposed_to}
+use Rattle.ann_defs.proofs.Members.{has-mapped, has-append, append-has, filter_has, has-filter, has_true, true_has, and_both, both_and}
 use Rattle.back_edges.proofs.Grouping.{nat_order, pair_order}
 use Rattle.vamana_build.specs.Proposed.{pairs_of, proposed}
 use Rattle.vamana_build.proofs.Ascending.{Rises-filter, range_rises, in_range_has}

@@ -1,13 +1,13 @@
 -- From one graph of a build to the next.
-use Rattle.std.proofs.Common.{◌≡◌, ℕ, zero, suc, ◌+◌, ◌-◌, ◌<◌, ◌≤◌, Bool, true, false, cond, List, [], ◌∷◌, length, map, refl, sym, ap, ◌∙◌, subst, arith}
-use Rattle.std.specs.Prelude.{◌==◌, ◌&&◌, slice_range}
-use Rattle.std.specs.List.{filter, All, range_with_len}
+use Rattle.std.proofs.Common.{◌≡◌, ℕ, suc, ◌+◌, ◌<◌, ◌≤◌, Bool, true, false, cond, List, [], ◌∷◌, length, map, sym, ap, ◌∙◌, subst, arith}
+use Rattle.std.specs.Prelude.{◌==◌, ◌&&◌}
+use Rattle.std.specs.List.{filter, range_with_len}
 use Rattle.std.specs.Ordering.{nat_cmp}
 use Rattle.std.proofs.lemmas.List.{length-map}
-use Rattle.std.proofs.lemmas.List.FromFn.{length-range_with_len, get_or-map-range_with_len}
-use Rattle.ann_defs.specs.Ordered.{Has, ordered}
+use Rattle.std.proofs.lemmas.List.FromFn.{get_or-map-range_with_len}
+use Rattle.ann_defs.specs.Ordered.{ordered}
 use Rattle.ann_defs.specs.Graph.{has, row_in, AreGoodRows}
-use Rattle.ann_defs.specs.BatchInsert.{Build, new_row_of, merged_row_of, last_row_of, batch_step, batch_at, bound_at}
+use Rattle.ann_defs.specs.BatchInsert.{Build, new_row_of, merged_row_of, last_row_of, batch_step, batch_at}
 use Rattle.ann_defs.proofs.Members.{range_has}
 use Rattle.ann_defs.proofs.GoodGraphs.{graph_after_good, final_row_good}
 use Rattle.vamana_build.specs.declared.settings.VamanaSettings.{VamanaSettings}

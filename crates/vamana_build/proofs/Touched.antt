@@ -1,6 +1,5 @@
 -- Outside a batch and its targets no row changes.
-use Rattle.std.proofs.Common.{◌≡◌, ℕ, ◌<◌, Bool, true, false, cond, List, ◌++◌, length, refl, sym, ap, ◌∙◌, inl, inr}
-use Rattle.std.specs.Prelude.{◌⊎◌}
+use Rattle.std.proofs.Common.{◌≡◌, ℕ, ◌<◌, true, false, cond, List, ◌++◌, length, refl, sym, ap, ◌∙◌, inl, inr}
 use Rattle.std.specs.List.{All, range_with_len}
 use Rattle.std.specs.Ordering.{nat_cmp}
 use Rattle.std.proofs.lemmas.Bool.{true≢false}
@@ -9,7 +8,6 @@ use Rattle.ann_defs.specs.Graph.{has, row_in, AreGoodRows}
 use Rattle.ann_defs.specs.BatchInsert.{Build, new_row_of, last_row_of}
 use Rattle.ann_defs.proofs.Order.{All_has}
 use Rattle.ann_defs.proofs.Members.{has-append, append-has, true_has, has_true, all_from_has}
-use Rattle.back_edges.specs.declared.pair.Pair.{Pair}
 use Rattle.back_edges.specs.Proposing.{pair_cmp, targets_of}
 use Rattle.vamana_build.specs.Changes.{differing}
 use Rattle.vamana_build.specs.Proposed.{proposed}

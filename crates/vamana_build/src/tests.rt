@@ -1,7 +1,7 @@
 //! Builds of a line of four points.
 ghost use Rattle.std.specs.Prelude.{◌≡◌, ◌≤◌, Some};
 
-use crate::{Alpha, OrderKind, Plan, StartKind, Vamana, VamanaSettings};
+use crate::{Alpha, BatchChange, OrderKind, Plan, StartKind, Vamana, VamanaSettings};
 use ann_shelf::{FreeGate, NoMemory};
 use bin_files::Points;
 use graph_files::{FlatGraph, Kind, Rows};
@@ -38,12 +38,22 @@ fn assert_rows(rt: &impl Abort, graph: &FlatGraph, rows: [&[u32]; 4]) {
     }
 }
 
+// What crosses threads beside a build: its plan is shared, it and its changes are sent.
+fn assert_crosses_threads<'p>(_plan: &Plan<'p>, _build: &Vamana<'p>) {
+    fn assert_sync<T: Sync>() {}
+    fn assert_send<T: Send>() {}
+    assert_sync::<Plan<'p>>();
+    assert_send::<Vamana<'p>>();
+    assert_send::<BatchChange>();
+}
+
 #[test]
 fn three_batches_and_then_none(rt: HostRuntime) -> Result<(), Fail> {
     let points = line(rt.alloc())?;
     assert!(rt; points.count() == 4);
     let plan = Plan::make(rt.alloc(), &points, small(4))?;
     let mut build = Vamana::new(rt.alloc(), &plan, 1)?;
+    assert_crosses_threads(&plan, &build);
     assert_eq!(rt; build.total(), 3);
     for batch in 1..4u32 {
         let change = build.step(&rt, rt.alloc(), &mut SerialRounds::new(), &FreeGate)?;

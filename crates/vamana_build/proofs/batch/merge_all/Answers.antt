@@ -1,4 +1,4 @@
-use Rattle.std.proofs.Common.{◌≡◌, ◌*◌, ◌+◌, ◌≤◌, sym, subst, ℕ, List, length, arith, map}
+use Rattle.std.proofs.Common.{◌*◌, ◌+◌, ◌≤◌, sym, subst, ℕ, List, length, arith, map}
 use Rattle.std.proofs.Math.Nat.{mul-le-mul_right}
 use Rattle.std.proofs.lemmas.List.{length-map}
 use Rattle.back_edges.specs.declared.pair.Pair.{Pair}

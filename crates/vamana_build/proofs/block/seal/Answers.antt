@@ -1,4 +1,4 @@
-use Rattle.std.proofs.Common.{◌≡◌, ◌∙◌, ◌+◌, ◌-◌, ◌<◌, ◌≤◌, ◌++◌, ◌∷◌, [], ap, sym, subst, ℕ, List, replicate, suc, zero, length, take, drop, arith, length-set, append_assoc, refl}
+use Rattle.std.proofs.Common.{◌≡◌, ◌∙◌, ◌+◌, ◌-◌, ◌<◌, ◌≤◌, ◌++◌, ◌∷◌, [], ap, sym, ℕ, List, replicate, suc, zero, length, take, drop, arith, length-set, append_assoc, refl}
 use Rattle.std.proofs.lemmas.List.{take_more_set}
 use Rattle.vamana_build.proofs.block.seal.Goals as goal
 

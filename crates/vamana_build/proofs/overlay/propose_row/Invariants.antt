@@ -1,5 +1,4 @@
 use Rattle.std.proofs.Common.{◌≡◌, ◌++◌, take}
-use Rattle.back_edges.specs.Proposing.{Proposed}
 use Rattle.vamana_build.specs.Proposed.{pairs_of}
 use Rattle.vamana_build.proofs.overlay.propose_row.Given as goal
 

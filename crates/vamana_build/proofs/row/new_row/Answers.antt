@@ -1,5 +1,4 @@
 use Rattle.std.proofs.Common.{◌≡◌, ◌++◌, ◌∙◌, ap, ℕ, List, [], ◌∷◌}
-use Rattle.ann_defs.specs.declared.near.Near.{Near}
 use Rattle.ann_defs.specs.Distance.{point}
 use Rattle.ann_defs.specs.Nearness.{ids_of}
 use Rattle.ann_defs.specs.Graph.{has, row_in, without}

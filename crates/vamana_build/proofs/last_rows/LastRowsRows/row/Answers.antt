@@ -1,16 +1,15 @@
-use Rattle.std.proofs.Common.{◌≡◌, ◌≢◌, ◌∙◌, ◌+◌, ◌<◌, ◌≤◌, ap, sym, subst, ℕ, List, [], length, get_or, map, arith, rules, nat_lt, true, false}
+use Rattle.std.proofs.Common.{◌≡◌, ◌∙◌, ◌<◌, ap, subst, ℕ, List, [], length, get_or, false}
 use Rattle.std.proofs.lemmas.Bool.{ltb-true}
 use Rattle.std.proofs.lemmas.List.Elements.{Contains-get_or}
 use Rattle.ann_defs.specs.Ordered.{ordered}
 use Rattle.ann_defs.specs.Graph.{has}
-use Rattle.ann_defs.specs.BatchInsert.{Build}
 use Rattle.ann_defs.specs.Ordered.{Has}
 use Rattle.ann_defs.proofs.Order.{has_from_Contains}
 use Rattle.vamana_build.specs.Builds.{build_of}
 use Rattle.back_edges.specs.declared.pair.Pair.{Pair}
 use Rattle.back_edges.specs.Proposing.{pair_cmp, targets_of}
 use Rattle.vamana_build.specs.Proposed.{proposed, merge_at}
-use Rattle.vamana_build.proofs.Padding.{merged_short, block_fits, block_row}
+use Rattle.vamana_build.proofs.Padding.{block_fits, block_row}
 use Rattle.vamana_build.proofs.Plans.{start_below}
 use Rattle.vamana_build.proofs.MergeFacts.{last_of_target, last_of_other, merge_short}
 use Rattle.vamana_build.proofs.last_rows.LastRowsRows.row.Goals as goal

@@ -1,11 +1,11 @@
-use Rattle.std.proofs.Common.{◌≡◌, ◌≢◌, ◌∙◌, ◌+◌, ◌-◌, ◌<◌, ◌≤◌, ap, sym, subst, ℕ, List, [], length, get_or, map, take, drop, arith, rules, nat_lt, true, length-take, length-drop}
+use Rattle.std.proofs.Common.{◌≡◌, ◌≢◌, ◌∙◌, ◌+◌, ◌-◌, ◌<◌, ap, sym, subst, ℕ, List, [], length, get_or, drop, arith, length-take, length-drop}
 use Rattle.std.specs.Prelude.{nat_eq}
 use Rattle.std.specs.List.{All, IsDistinct}
 use Rattle.std.proofs.lemmas.Bool.{lt-ltb}
 use Rattle.std.proofs.lemmas.List.{length-map, get_or-map}
 use Rattle.std.proofs.lemmas.List.Elements.{Contains-get_or}
 use Rattle.ann_defs.specs.Ordered.{ordered}
-use Rattle.ann_defs.specs.BatchInsert.{Build, row_after, merged_row_of, sources_of, with_new_rows}
+use Rattle.ann_defs.specs.BatchInsert.{row_after, merged_row_of}
 use Rattle.ann_defs.specs.Ordered.{Has}
 use Rattle.ann_defs.proofs.Order.{has_from_Contains}
 use Rattle.vamana_build.specs.Builds.{build_of}

@@ -1,5 +1,4 @@
-use Rattle.std.proofs.Common.{◌≡◌, ◌∙◌, ℕ, List, ◌+◌, ◌≤◌, length, ap, sym, subst, get_or, []}
-use Rattle.ann_defs.specs.Graph.{without}
+use Rattle.std.proofs.Common.{◌∙◌, ℕ, List, ◌≤◌, length, ap, sym, subst, get_or, []}
 use Rattle.ann_defs.specs.BatchInsert.{new_row_of}
 use Rattle.vamana_build.specs.Builds.{build_of}
 use Rattle.vamana_build.proofs.Padding.{new_row_short, block_fits, block_row}

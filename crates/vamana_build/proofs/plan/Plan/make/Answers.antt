@@ -1,4 +1,4 @@
-use Rattle.std.proofs.Common.{◌≡◌, ◌∙◌, ℕ, ◌≤◌, ap, subst}
+use Rattle.std.proofs.Common.{◌∙◌, ℕ, ◌≤◌, ap, subst}
 use Rattle.ann_defs.specs.BatchInsert.{cap_of}
 use Rattle.vamana_build.specs.Builds.{order_of}
 use Rattle.vamana_build.proofs.plan.Plan.make.Goals as goal

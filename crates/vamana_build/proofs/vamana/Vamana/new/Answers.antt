@@ -1,6 +1,4 @@
-use Rattle.std.proofs.Common.{◌≡◌, ◌∙◌, ℕ, ◌+◌, ◌≤◌, List, [], length, replicate, refl, sym, ap, subst, arith}
-use Rattle.graph_files.specs.Flat.{Flat}
-use Rattle.prefix_batches.specs.Progress.{Progress}
+use Rattle.std.proofs.Common.{◌≡◌, ◌∙◌, ℕ, ◌≤◌, [], length, replicate, subst, arith}
 use Rattle.prefix_batches.proofs.Bounds.{total_within}
 use Rattle.vamana_build.specs.Builds.{batch_cap, batches_of}
 use Rattle.vamana_build.proofs.NextBatch.{next_is}

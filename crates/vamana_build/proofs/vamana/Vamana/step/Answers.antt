@@ -1,12 +1,10 @@
-use Rattle.std.proofs.Common.{◌≡◌, ◌∙◌, ◌+◌, ◌++◌, ◌<◌, ℕ, List, length, take, drop, refl, sym, ap, subst, arith, rules}
+use Rattle.std.proofs.Common.{◌≡◌, ◌∙◌, ◌+◌, ◌++◌, ◌<◌, ℕ, List, length, take, drop, sym, ap, subst, arith}
 use Rattle.std.proofs.lemmas.List.{take_at}
 use Rattle.beam_search.specs.Room.{Room}
 use Rattle.steal_pool.specs.declared.post.Post.{Post}
-use Rattle.steal_pool.specs.Work.{AllServe}
 use Rattle.vamana_build.specs.Builds.{batches_of}
 use Rattle.vamana_build.specs.Building.{Building, IsBuilt}
 use Rattle.vamana_build.specs.Changes.{change_at}
-use Rattle.vamana_build.specs.Serving.{IsServing}
 use Rattle.vamana_build.proofs.Plans.{start_below}
 use Rattle.vamana_build.proofs.NextBatch.{some_left, stepped}
 use Rattle.vamana_build.proofs.vamana.Vamana.step.Goals as goal
