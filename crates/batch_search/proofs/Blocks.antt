@@ -1,0 +1,90 @@
+-- Answers in blocks.
+use Rattle.std.proofs.Common.{◌≡◌, ℕ, zero, suc, ◌+◌, ◌*◌, ◌-◌, ◌<◌, ◌≤◌, List, [], ◌∷◌, ◌++◌, map, take, drop, replicate, length, get_or, set, refl, ap, ◌∙◌, arith, length-append, append_assoc, length-take}
+use Rattle.std.specs.Prelude.{slice_index, min}
+use Rattle.std.specs.List.{All}
+use Rattle.std.proofs.lemmas.List.{take_more, take_more_set, length-set}
+use Rattle.std.proofs.lemmas.List.Concat.{flat_map-append}
+use Rattle.std.proofs.lemmas.List.Elements.{All-nil, All-cons}
+use Rattle.ann_defs.specs.declared.near.Near.{Near}
+use Rattle.batch_search.specs.Blocks.{words_of, block_of, pairs_in, answer_in, HasAnswer}
+
+-- two words more
+pub two_more : (out ws : List ℕ) (i j a b : ℕ) → j ≡ i + 1 → j < length out → take i out ≡ ws → take (j + 1) (set (set out i a) j b) ≡ ws ++ a ∷ b ∷ []
+two_more out ws i j a b e lt front =
+    let first : take (i + 1) (set out i a) ≡ ws ++ a ∷ [] = take_more_set out i a (omega arith) ∙ ap (λ (l : List ℕ). l ++ a ∷ []) front in
+    take_more_set (set out i a) j b (omega (arith, length-set out i a))
+    ∙ ap (λ (n : ℕ). take n (set out i a) ++ b ∷ []) e
+    ∙ ap (λ (l : List ℕ). l ++ b ∷ []) first
+    ∙ append_assoc ws (a ∷ []) (b ∷ [])
+
+pub words_more : (nears : List Near) (at : ℕ) (d : Near) → at < length nears → words_of (take (at + 1) nears) ≡ words_of (take at nears) ++ (get_or nears at d).id ∷ (get_or nears at d).dist ∷ []
+words_more nears at d lt =
+    ap words_of (take_more nears at d lt) ∙ flat_map-append (λ (x : Near). x.id ∷ x.dist ∷ []) (take at nears) (get_or nears at d ∷ [])
+
+pub length-words : (nears : List Near) → length (words_of nears) ≡ 2 * length nears
+length-words [] = refl
+length-words (x ∷ nears) = let rest = length-words nears in omega (arith, rest)
+
+pub length-block : (size : ℕ) (nears : List Near) → 2 * length nears + 1 ≤ length (block_of size nears)
+length-block size nears =
+    let n = 2 * length nears + 1 in
+    let all : length (block_of size nears) ≡ suc (length (words_of nears)) + length (replicate {A = ℕ} (size - n) 0) = length-append (length nears ∷ words_of nears) (replicate {A = ℕ} (size - n) 0) in
+    let ws = length-words nears in
+    omega (arith, all, ws)
+
+pub has_answer : (size : ℕ) (nears : List Near) → HasAnswer (block_of size nears)
+has_answer size nears = length-block size nears
+
+-- what was written is what is read
+pub pairs_words : (nears : List Near) (rest : List ℕ) → take (length nears) (pairs_in (words_of nears ++ rest)) ≡ nears
+pairs_words [] rest = refl
+pairs_words (x ∷ nears) rest = ap (λ (xs : List Near). x ∷ xs) (pairs_words nears rest)
+
+pub answer_written : (size : ℕ) (nears : List Near) → answer_in (block_of size nears) ≡ nears
+answer_written size nears = pairs_words nears (replicate (size - (2 * length nears + 1)) 0)
+
+-- there are as many pairs as there are two words
+pub pairs_enough : (ws : List ℕ) (n : ℕ) → 2 * n ≤ length ws → n ≤ length (pairs_in ws)
+pairs_enough ws zero h = omega arith
+pairs_enough [] (suc n) h = absurd (omega arith)
+pairs_enough (id ∷ []) (suc n) h = absurd (omega arith)
+pairs_enough (id ∷ dist ∷ ws) (suc n) h = let rest = pairs_enough ws n (omega arith) in omega (arith, rest)
+
+pub pair_at : (ws : List ℕ) (i j : ℕ) (d : Near) → j ≡ 2 * i → suc j < length ws → get_or (pairs_in ws) i d ≡ record { dist = get_or ws (suc j) 0; id = get_or ws j 0 }
+pair_at [] i j d e h = absurd (omega arith)
+pair_at (id ∷ []) i j d e h = absurd (omega arith)
+pair_at (id ∷ dist ∷ ws) zero zero d e h = refl
+pair_at (id ∷ dist ∷ ws) zero (suc j) d e h = absurd (omega arith)
+pair_at (id ∷ dist ∷ ws) (suc i) zero d e h = absurd (omega arith)
+pair_at (id ∷ dist ∷ ws) (suc i) (suc zero) d e h = absurd (omega arith)
+pair_at (id ∷ dist ∷ ws) (suc i) (suc (suc j)) d e h = pair_at ws i j d (omega arith) (omega arith)
+
+-- the pair with this number in a block
+pub block_pair : (block : List ℕ) (at : ℕ) (d : Near) → 2 * at + 2 < length block → get_or (pairs_in (drop 1 block)) at d ≡ record { dist = get_or block (2 * at + 2) 0; id = get_or block (2 * at + 1) 0 }
+block_pair [] at d h = absurd (omega arith)
+block_pair (n ∷ ws) at d h =
+    let low : suc (2 * at) ≡ 2 * at + 1 = omega arith in
+    let high : suc (suc (2 * at)) ≡ 2 * at + 2 = omega arith in
+    let make : ℕ → ℕ → Near = λ i j. record { dist = get_or (n ∷ ws) j 0; id = get_or (n ∷ ws) i 0 } in
+    pair_at ws at (2 * at) d refl (omega arith) ∙ (λ i. make (low i) (high i))
+
+pub block_pairs : (block : List ℕ) (n : ℕ) → 2 * n + 1 ≤ length block → n ≤ length (pairs_in (drop 1 block))
+block_pairs [] n h = absurd (omega arith)
+block_pairs (m ∷ ws) n h = pairs_enough ws n (omega arith)
+
+pub answer_count : (block : List ℕ) → HasAnswer block → length (answer_in block) ≡ slice_index block 0
+answer_count block h =
+    let n = slice_index block 0 in
+    let enough = block_pairs block n h in
+    let all : length (answer_in block) ≡ min n (length (pairs_in (drop 1 block))) = length-take n (pairs_in (drop 1 block)) in
+    omega (arith, enough, all)
+
+-- the blocks of answers
+module _ (f : List ℕ → List Near) (size : ℕ) where
+  pub answers_written : (queries : List (List ℕ)) → map answer_in (map (λ q. block_of size (f q)) queries) ≡ map f queries
+  answers_written [] = refl
+  answers_written (q ∷ queries) = λ i. answer_written size (f q) i ∷ answers_written queries i
+
+  pub all_have : (queries : List (List ℕ)) → All HasAnswer (map (λ q. block_of size (f q)) queries)
+  all_have [] = All-nil HasAnswer
+  all_have (q ∷ queries) = All-cons HasAnswer (block_of size (f q)) (map (λ x. block_of size (f x)) queries) (has_answer size (f q)) (all_have queries)

@@ -1,0 +1,58 @@
+//! What is asked of which index.
+ghost use Rattle.std.specs.Prelude.{◌≡◌, ◌<◌, ◌≤◌, length};
+ghost use Rattle.std.proofs.Props.{props};
+ghost use Rattle.ann_defs.specs.Distance.{dim_of};
+ghost use Rattle.ann_defs.specs.Graph.{AreGoodRows};
+ghost use Rattle.graph_files.specs.View.{contents};
+ghost use Rattle.graph_files.specs.WellFormed.{IsWellFormed, base_bound};
+
+use bin_files::Points;
+use graph_files::Index;
+
+/// Queries of one index.
+///
+/// `beam` is `L` in DiskANN and `ef` in HNSW, the greatest length of each search's list; the `k` nearest of that list
+/// are answered. It owns nothing and takes no memory.
+#[derive(Drop)]
+pub struct QueryBatch<'a> {
+    pub points: &'a Points,
+    pub index: &'a Index,
+    pub queries: &'a Points,
+    pub beam: u32,
+    pub k: u32,
+    ghost good: { AreGoodRows (length points.now.vectors) (base_bound (contents index.now).kind index.now.degree) index.now.base.rows } by { Prim.hlevel props },
+    ghost start: { index.now.start < length points.now.vectors },
+    ghost dim: { dim_of queries.now.vectors ≡ dim_of points.now.vectors },
+    ghost wide: { (1 ≤ beam) × (beam ≤ 1024) },
+    ghost few: { (1 ≤ k) × (k ≤ beam) },
+}
+
+impl<'a> QueryBatch<'a> {
+    /// These queries of this index, which is over these points.
+    pub fn new(
+        points: &'a Points,
+        index: &'a Index,
+        queries: &'a Points,
+        beam: u32,
+        k: u32,
+    ) -> QueryBatch<'a>
+        requires index { IsWellFormed (contents index.now) }
+        requires count { index.now.count ≡ length points.now.vectors }
+        requires dim { dim_of queries.now.vectors ≡ dim_of points.now.vectors }
+        requires beam { (1 ≤ beam) × (beam ≤ 1024) }
+        requires k { (1 ≤ k) × (k ≤ beam) }
+        ensures points { result.points.now ≡ points.now }
+        ensures index { result.index.now ≡ index.now }
+        ensures queries { result.queries.now ≡ queries.now }
+        ensures beam { result.beam ≡ beam }
+        ensures k { result.k ≡ k }
+    {
+        QueryBatch {
+            points,
+            index,
+            queries,
+            beam,
+            k,
+        }
+    }
+}
