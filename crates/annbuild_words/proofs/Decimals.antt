@@ -14,3 +14,6 @@ added_digits n old mid h small e =
 
 pub few_digits : (n : ℕ) → n < 2 ^ 64 → length (decimal n) ≤ 20
 few_digits n small = length-decimal-le 20 n (lit< tt) (omega (arith, small)) small
+
+pub few_digits_32 : (n : ℕ) → n < 2 ^ 32 → length (decimal n) ≤ 10
+few_digits_32 n small = length-decimal-le 10 n (lit< tt) (omega (arith, small)) (omega (arith, small))

@@ -1,4 +1,4 @@
-//! Printed lines, made without memory.
+//! Printed lines, made without memory, and the line of a build.
 ghost use Rattle.std.specs.Prelude.{◌≡◌, ◌+◌, ◌<◌, ◌≤◌, ◌++◌, [], length, codes, decimal};
 ghost use Rattle.annbuild_words.specs.Lines.{kind_name, built_text};
 ghost use Rattle.arrayvec.specs.ArrayVec.{array_vec_len};
@@ -10,7 +10,7 @@ use arrayvec::ArrayVec;
 pub type Line = ArrayVec<u8, 256>;
 
 /// Adds a text.
-fn push_text(line: &mut Line, text: &str)
+pub fn push_text(line: &mut Line, text: &str)
     requires { array_vec_len line.old + length text.now ≤ 256 }
     ensures items { line.new.items ≡ line.old.items ++ text.now }
     ensures len { array_vec_len line.new ≡ array_vec_len line.old + length text.now }
@@ -21,7 +21,7 @@ fn push_text(line: &mut Line, text: &str)
 }
 
 /// Adds the digits of a number, the greatest first.
-fn push_digits(line: &mut Line, n: u64)
+pub fn push_digits(line: &mut Line, n: u64)
     requires { array_vec_len line.old + length (decimal n) ≤ 256 }
     ensures items { line.new.items ≡ line.old.items ++ decimal n }
     ensures len { array_vec_len line.new ≡ array_vec_len line.old + length (decimal n) }
@@ -35,7 +35,7 @@ fn push_digits(line: &mut Line, n: u64)
 }
 
 /// Adds a number in decimal.
-fn push_number(line: &mut Line, n: u64)
+pub fn push_number(line: &mut Line, n: u64)
     requires { array_vec_len line.old + 20 ≤ 256 }
     ensures items { line.new.items ≡ line.old.items ++ decimal n }
     ensures len { array_vec_len line.new ≤ array_vec_len line.old + 20 }
@@ -93,4 +93,26 @@ pub fn built_line(told: BuiltLine) -> Line
     push_field(&mut line, " edges ", told.edges);
     push_text(&mut line, "\n");
     line
+}
+
+#[cfg(test)]
+mod tests {
+    use super::*;
+
+    #[test]
+    fn worked_build(rt: HostRuntime) {
+        let told = BuiltLine {
+            kind: Kind::Vamana,
+            count: 4,
+            dim: 1,
+            degree: 2,
+            start: 0,
+            layers: 1,
+            edges: 5,
+        };
+        assert_eq!(rt;
+            built_line(told).as_slice(),
+            b"built vamana count 4 dim 1 degree 2 start 0 layers 1 edges 5\n".as_slice()
+        );
+    }
 }
