@@ -1,5 +1,5 @@
--- How a build ends, from how its two halves end.
-use Rattle.std.proofs.Common.{◌≡◌, ◌∙◌, ◌≤◌, ◌<◌, ℕ, List, ◌++◌, [], take, length, refl, sym, ap, subst, arith, Option, Some, None, IfSome, inl, inr, Bool, true, false, cond, nat_lt}
+-- How a command ends, from how its parts end.
+use Rattle.std.proofs.Common.{◌≡◌, ◌∙◌, ◌≤◌, ℕ, List, ◌++◌, length, refl, sym, ap, subst, arith, Option, Some, None, IfSome, inl, inr, true, false, cond, nat_lt}
 use Rattle.std.proofs.lemmas.List.{take_all, append-nil}
 use Rattle.ann_shelf.specs.declared.slip.Slip.{Slip}
 use Rattle.ann_shelf.specs.declared.slip.Slip.TheVariants.{Failed, NoMemory as NoSlipMemory}
@@ -8,29 +8,34 @@ use Rattle.ann_shelf.specs.Faults.{Rose}
 use Rattle.ann_shelf.specs.Written.{GotSome}
 use Rattle.ann_defs.specs.declared.kinds.Kind.{Kind}
 use Rattle.ann_defs.specs.declared.kinds.Kind.TheVariants.{Vamana, Hnsw, Nnd}
+use Rattle.ann_defs.specs.declared.near.Near.{Near}
 use Rattle.ann_defs.proofs.Members.{and_both}
 use Rattle.graph_files.specs.View.{kind_code}
 use Rattle.graph_files.specs.WellFormed.{layers_fit}
 use Rattle.std.proofs.lemmas.Bool.Decides.{nat_tests}
 use Rattle.std.specs.Prelude.{◌&&◌, ◌==◌}
+use Rattle.bin_files.proofs.Pieces.{both_told}
 use Rattle.bin_files.specs.Points.{points_of, text}
 use Rattle.bin_files.specs.Write.{WroteSome}
 use Rattle.graph_files.specs.Index.{Contents, text_of, edges_of}
-use Rattle.annbuild_words.specs.Asked.{Meaning}
-use Rattle.annbuild_words.specs.Asked.Command.{Builds}
+use Rattle.annbuild_words.specs.Asked.{Command, Meaning}
+use Rattle.annbuild_words.specs.Asked.Command.{Builds, Queries as Queried}
 use Rattle.annbuild_words.specs.Asked.Meaning.{Means}
-use Rattle.annbuild_words.specs.declared.line.BuiltLine.{BuiltLine}
 use Rattle.annbuild_words.specs.Lines.{built_text}
 use Rattle.annbuild_words.specs.declared.request.BuildOptions.{BuildOptions}
+use Rattle.annbuild_words.specs.declared.request.QueryOptions.{QueryOptions}
 use Rattle.annbuild_words.specs.declared.fault.Fault.{Fault}
 use Rattle.annbuild_words.specs.declared.fault.Fault.TheVariants.{Usage, Setting, Read, Malformed, Unfit, Write, NoMemory, TooLarge}
-use Rattle.annbuild_words.specs.declared.fault.Rule.TheVariants.{Points, Index as IndexRule}
 use Rattle.annbuild_words.specs.declared.fault.Role.{Role}
 use Rattle.annbuild_words.specs.declared.fault.Role.TheVariants.{Base, Index, Queries, Output}
 use Rattle.annbuild_commands.specs.Faults.{write_fault_of}
-use Rattle.annbuild_commands.specs.IndexOf.{index_of, file_of, line_of, told_of, kind_at}
-use Rattle.annbuild_commands.specs.Ending.{OnBuild}
-use Rattle.annbuild_commands.specs.Building.{IsIndexOf, IsBuilt, IsTold, IsGood, Tells, HasCause, IsOfWriting, Leaves, LeavesOut, index_text, index_line}
+use Rattle.annbuild_commands.specs.IndexOf.{file_of, line_of, told_of, kind_at}
+use Rattle.annbuild_commands.specs.Building.{IsIndexOf, IsBuilt, IsTold, IsOfWriting, LeavesFile, LeavesLine}
+use Rattle.annbuild_commands.specs.Querying.{LeavesLines, IsOfAnswering}
+use Rattle.annbuild_commands.specs.Commands.{refusal, IsReached, Tells, IsReadOf, IsWriteOf, HasCause, IsQuiet}
+use Rattle.annbuild_commands.specs.Reading.{IsOfReading, IsReadFault}
+use Rattle.annbuild_commands.specs.Ending.{OnCommand}
+use Rattle.annbuild_commands.proofs.LineLists.{no_lines}
 
 pub file_is : (i : Contents) → text_of i ≡ file_of i
 unfolding file_of
@@ -40,94 +45,160 @@ pub line_is : (i : Contents) → built_text (told_of i) ≡ line_of i
 unfolding line_of
 line_is i = refl
 
--- before the writing a fault leaves all as it was
-pub leaves_same : (reads : Type 0) (fault : Fault) (f : Files) (name text : List ℕ) → HasCause reads ⊥ ⊥ fault → Leaves f f name text fault
-leaves_same reads Usage f name text h = absurd h
-leaves_same reads (Setting n v l g) f name text h = absurd h
-leaves_same reads (Read file) f name text h = refl
-leaves_same reads (Malformed file place rule) f name text h = refl
-leaves_same reads (Unfit file what found wanted) f name text h = absurd h
-leaves_same reads (Write Base) f name text h = inl refl
-leaves_same reads (Write Index) f name text h = inl refl
-leaves_same reads (Write Queries) f name text h = inl refl
-leaves_same reads (Write Output) f name text h = absurd h
-leaves_same reads NoMemory f name text h = inl refl
-leaves_same reads (TooLarge n v l) f name text h = refl
-
-pub out_same : (reads : Type 0) (fault : Fault) (t line : List ℕ) → HasCause reads ⊥ ⊥ fault → LeavesOut t t line fault
-out_same reads Usage t line h = absurd h
-out_same reads (Setting n v l g) t line h = absurd h
-out_same reads (Read file) t line h = refl
-out_same reads (Malformed file place rule) t line h = refl
-out_same reads (Unfit file what found wanted) t line h = absurd h
-out_same reads (Write Base) t line h = refl
-out_same reads (Write Index) t line h = refl
-out_same reads (Write Queries) t line h = refl
-out_same reads (Write Output) t line h = absurd h
-out_same reads NoMemory t line h = (0, sym (append-nil t))
-out_same reads (TooLarge n v l) t line h = refl
-
 -- a cause among fewer is a cause among more
-pub cause_read : (reads writes outs : Type 0) (fault : Fault) → HasCause reads ⊥ ⊥ fault → HasCause reads writes outs fault
-cause_read reads writes outs Usage h = absurd h
-cause_read reads writes outs (Setting n v l g) h = absurd h
-cause_read reads writes outs (Read Base) h = h
-cause_read reads writes outs (Read Index) h = absurd h
-cause_read reads writes outs (Read Queries) h = absurd h
-cause_read reads writes outs (Read Output) h = absurd h
-cause_read reads writes outs (Malformed file place rule) h = tt
-cause_read reads writes outs (Unfit file what found wanted) h = absurd h
-cause_read reads writes outs (Write Base) h = absurd h
-cause_read reads writes outs (Write Index) h = absurd h
-cause_read reads writes outs (Write Queries) h = absurd h
-cause_read reads writes outs (Write Output) h = absurd h
-cause_read reads writes outs NoMemory h = tt
-cause_read reads writes outs (TooLarge n v l) h = tt
+read_more : (c : Command) (r s : List ℕ → Type 0) (role : Role) → ((name : List ℕ) → r name → s name) → IsReadOf c r role → IsReadOf c s role
+read_more (Builds base index o) r s Base m h = m base h
+read_more (Builds base index o) r s Index m h = absurd h
+read_more (Builds base index o) r s Queries m h = absurd h
+read_more (Builds base index o) r s Output m h = absurd h
+read_more (Queried base index queries o) r s Base m h = m base h
+read_more (Queried base index queries o) r s Index m h = m index h
+read_more (Queried base index queries o) r s Queries m h = m queries h
+read_more (Queried base index queries o) r s Output m h = absurd h
 
-pub cause_write : (reads writes writes' outs : Type 0) (fault : Fault) → (writes → writes') → IsOfWriting fault → HasCause ⊥ writes outs fault → HasCause reads writes' outs fault
-cause_write reads writes writes' outs Usage m w h = absurd w
-cause_write reads writes writes' outs (Setting n v l g) m w h = absurd w
-cause_write reads writes writes' outs (Read file) m w h = absurd w
-cause_write reads writes writes' outs (Malformed file place rule) m w h = absurd w
-cause_write reads writes writes' outs (Unfit file what found wanted) m w h = absurd w
-cause_write reads writes writes' outs (Write Base) m w h = absurd w
-cause_write reads writes writes' outs (Write Index) m w h = m h
-cause_write reads writes writes' outs (Write Queries) m w h = absurd w
-cause_write reads writes writes' outs (Write Output) m w h = h
-cause_write reads writes writes' outs NoMemory m w h = tt
-cause_write reads writes writes' outs (TooLarge n v l) m w h = absurd w
+write_more : (c : Command) (w v : List ℕ → Type 0) (outs more : Type 0) (role : Role) → ((name : List ℕ) → w name → v name) → (outs → more) → IsWriteOf c w outs role → IsWriteOf c v more role
+write_more (Builds base index o) w v outs more Base m n h = absurd h
+write_more (Builds base index o) w v outs more Index m n h = m index h
+write_more (Builds base index o) w v outs more Queries m n h = absurd h
+write_more (Builds base index o) w v outs more Output m n h = n h
+write_more (Queried base index queries o) w v outs more Base m n h = absurd h
+write_more (Queried base index queries o) w v outs more Index m n h = absurd h
+write_more (Queried base index queries o) w v outs more Queries m n h = absurd h
+write_more (Queried base index queries o) w v outs more Output m n h = n h
 
--- once the index stands, a fault of the writing tells that the file was good
-pub tells_write : (file : List ℕ) (o : BuildOptions) (fault : Fault) → IsOfWriting fault → IsGood file o → Tells file o fault
-tells_write file o Usage w g = absurd w
-tells_write file o (Setting n v l u) w g = absurd w
-tells_write file o (Read role) w g = absurd w
-tells_write file o (Malformed role place rule) w g = absurd w
-tells_write file o (Unfit role what found wanted) w g = absurd w
-tells_write file o (Write role) w g = g
-tells_write file o NoMemory w g = tt
-tells_write file o (TooLarge n v l) w g = absurd w
+pub cause_more : (c : Command) (r s w v : List ℕ → Type 0) (outs more : Type 0) (fault : Fault)
+    → ((name : List ℕ) → r name → s name) → ((name : List ℕ) → w name → v name) → (outs → more) → HasCause c r w outs fault → HasCause c s v more fault
+cause_more c r s w v outs more Usage a b d h = absurd h
+cause_more c r s w v outs more (Setting n x l g) a b d h = absurd h
+cause_more c r s w v outs more (Read role) a b d h = read_more c r s role a h
+cause_more c r s w v outs more (Malformed role place rule) a b d h = tt
+cause_more c r s w v outs more (Unfit role what found wanted) a b d h = tt
+cause_more c r s w v outs more (Write role) a b d h = write_more c w v outs more role b d h
+cause_more c r s w v outs more NoMemory a b d h = tt
+cause_more c r s w v outs more (TooLarge n x l) a b d h = tt
+
+-- before anything is written a fault leaves all as it was
+no_write : (c : Command) (role : Role) → IsWriteOf c (λ name. ⊥) ⊥ role → ⊥
+no_write (Builds base index o) Base h = h
+no_write (Builds base index o) Index h = h
+no_write (Builds base index o) Queries h = h
+no_write (Builds base index o) Output h = h
+no_write (Queried base index queries o) Base h = h
+no_write (Queried base index queries o) Index h = h
+no_write (Queried base index queries o) Queries h = h
+no_write (Queried base index queries o) Output h = h
+
+pub leaves_same : (base index : List ℕ) (o : BuildOptions) (reads : List ℕ → Type 0) (f : Files) (text : List ℕ) (fault : Fault) → HasCause (Builds base index o) reads (λ name. ⊥) ⊥ fault → LeavesFile f f index text fault
+leaves_same base index o reads f text Usage h = absurd h
+leaves_same base index o reads f text (Setting n x l g) h = absurd h
+leaves_same base index o reads f text (Read role) h = refl
+leaves_same base index o reads f text (Malformed role place rule) h = refl
+leaves_same base index o reads f text (Unfit role what found wanted) h = refl
+leaves_same base index o reads f text (Write role) h = absurd (no_write (Builds base index o) role h)
+leaves_same base index o reads f text NoMemory h = inl refl
+leaves_same base index o reads f text (TooLarge n x l) h = refl
+
+pub line_same : (base index : List ℕ) (o : BuildOptions) (reads : List ℕ → Type 0) (t line : List ℕ) (fault : Fault) → HasCause (Builds base index o) reads (λ name. ⊥) ⊥ fault → LeavesLine t t line fault
+line_same base index o reads t line Usage h = absurd h
+line_same base index o reads t line (Setting n x l g) h = absurd h
+line_same base index o reads t line (Read role) h = refl
+line_same base index o reads t line (Malformed role place rule) h = refl
+line_same base index o reads t line (Unfit role what found wanted) h = refl
+line_same base index o reads t line (Write role) h = absurd (no_write (Builds base index o) role h)
+line_same base index o reads t line NoMemory h = (0, sym (append-nil t))
+line_same base index o reads t line (TooLarge n x l) h = refl
+
+pub lines_same : (base index queries : List ℕ) (o : QueryOptions) (reads : List ℕ → Type 0) (wants : Type 0) (t : List ℕ) (answers : List (List Near)) (fault : Fault)
+    → HasCause (Queried base index queries o) reads (λ name. ⊥) ⊥ fault → LeavesLines wants t t answers fault
+lines_same base index queries o reads wants t answers Usage h = absurd h
+lines_same base index queries o reads wants t answers (Setting n x l g) h = absurd h
+lines_same base index queries o reads wants t answers (Read role) h = refl
+lines_same base index queries o reads wants t answers (Malformed role place rule) h = refl
+lines_same base index queries o reads wants t answers (Unfit role what found wanted) h = refl
+lines_same base index queries o reads wants t answers (Write role) h = absurd (no_write (Queried base index queries o) role h)
+lines_same base index queries o reads wants t answers NoMemory h = inl (0, sym (append-nil t) ∙ ap (λ x. t ++ x) (sym (no_lines 0)))
+lines_same base index queries o reads wants t answers (TooLarge n x l) h = refl
+
+-- what a fault of a file is as a fault of a command
+pub read_cause : (c : Command) (role : Role) (rose : Type 0) (reads : List ℕ → Type 0) (fault : Fault) → (rose → IsReadOf c reads role) → IsReadFault role rose fault → HasCause c reads (λ name. ⊥) ⊥ fault
+read_cause c role rose reads Usage m h = absurd h
+read_cause c role rose reads (Setting n x l g) m h = absurd h
+read_cause c role rose reads (Read file) m h = subst (IsReadOf c reads) (sym h.0) (m h.1)
+read_cause c role rose reads (Malformed file place rule) m h = tt
+read_cause c role rose reads (Unfit file what found wanted) m h = tt
+read_cause c role rose reads (Write file) m h = absurd h
+read_cause c role rose reads NoMemory m h = tt
+read_cause c role rose reads (TooLarge n x l) m h = tt
+
+pub read_tells : (c : Command) (files : Files) (role : Role) (refused : Option Fault) (fault : Fault) → IsReached c files role → ((f : Fault) → refused ≡ Some f → refusal c files ≡ Some f)
+    → IsOfReading refused role fault → Tells c files fault
+read_tells c files role refused Usage reached m h = absurd h
+read_tells c files role refused (Setting n x l g) reached m h = absurd h
+read_tells c files role refused (Read file) reached m h = subst (IsReached c files) (sym h) reached
+read_tells c files role refused (Malformed file place rule) reached m h = m (Malformed file place rule) h
+read_tells c files role refused (Unfit file what found wanted) reached m h = absurd h
+read_tells c files role refused (Write file) reached m h = absurd h
+read_tells c files role refused NoMemory reached m h = tt
+read_tells c files role refused (TooLarge n x l) reached m h = m (TooLarge n x l) h
+
+-- once the index stands, a fault of the writing tells that nothing was refused
+pub tells_write : (c : Command) (files : Files) (fault : Fault) → IsOfWriting fault → refusal c files ≡ None → Tells c files fault
+tells_write c files Usage w g = absurd w
+tells_write c files (Setting n v l u) w g = absurd w
+tells_write c files (Read role) w g = absurd w
+tells_write c files (Malformed role place rule) w g = absurd w
+tells_write c files (Unfit role what found wanted) w g = absurd w
+tells_write c files (Write role) w g = g
+tells_write c files NoMemory w g = tt
+tells_write c files (TooLarge n v l) w g = absurd w
+
+-- the same of a fault of answering
+pub tells_answering : (c : Command) (files : Files) (outs : Type 0) (fault : Fault) → IsOfAnswering outs fault → refusal c files ≡ None → Tells c files fault
+tells_answering c files outs Usage w g = absurd w
+tells_answering c files outs (Setting n v l u) w g = absurd w
+tells_answering c files outs (Read role) w g = absurd w
+tells_answering c files outs (Malformed role place rule) w g = absurd w
+tells_answering c files outs (Unfit role what found wanted) w g = absurd w
+tells_answering c files outs (Write role) w g = g
+tells_answering c files outs NoMemory w g = tt
+tells_answering c files outs (TooLarge n v l) w g = absurd w
+
+pub cause_answering : (base index queries : List ℕ) (o : QueryOptions) (reads writes : List ℕ → Type 0) (outs : Type 0) (fault : Fault) → IsOfAnswering outs fault → HasCause (Queried base index queries o) reads writes outs fault
+cause_answering base index queries o reads writes outs Usage h = absurd h
+cause_answering base index queries o reads writes outs (Setting n v l u) h = absurd h
+cause_answering base index queries o reads writes outs (Read role) h = absurd h
+cause_answering base index queries o reads writes outs (Malformed role place rule) h = absurd h
+cause_answering base index queries o reads writes outs (Unfit role what found wanted) h = absurd h
+cause_answering base index queries o reads writes outs (Write Base) h = absurd h
+cause_answering base index queries o reads writes outs (Write Index) h = absurd h
+cause_answering base index queries o reads writes outs (Write Queries) h = absurd h
+cause_answering base index queries o reads writes outs (Write Output) h = h
+cause_answering base index queries o reads writes outs NoMemory h = tt
+cause_answering base index queries o reads writes outs (TooLarge n v l) h = absurd h
 
 -- a fault of writing the index, and of writing the line
-pub leaves_index : (f g : Files) (name text : List ℕ) (slip : Slip) → WroteSome f g name text → Leaves f g name text (write_fault_of Index slip)
+pub leaves_index : (f g : Files) (name text : List ℕ) (slip : Slip) → WroteSome f g name text → LeavesFile f g name text (write_fault_of Index slip)
 leaves_index f g name text Failed some = some
 leaves_index f g name text NoSlipMemory some = some
 
-pub out_index : (t line : List ℕ) (slip : Slip) → LeavesOut t t line (write_fault_of Index slip)
+pub out_index : (t line : List ℕ) (slip : Slip) → LeavesLine t t line (write_fault_of Index slip)
 out_index t line Failed = refl
 out_index t line NoSlipMemory = (0, sym (append-nil t))
 
-pub leaves_output : (f g : Files) (name text : List ℕ) (slip : Slip) → g ≡ with_file f name text → Leaves f g name text (write_fault_of Output slip)
+pub leaves_output : (f g : Files) (name text : List ℕ) (slip : Slip) → g ≡ with_file f name text → LeavesFile f g name text (write_fault_of Output slip)
 leaves_output f g name text Failed whole = whole
 leaves_output f g name text NoSlipMemory whole = inr (length text, whole ∙ ap (with_file f name) (sym (take_all (length text) text (omega arith))))
 
-pub out_output : (t u line : List ℕ) (slip : Slip) → GotSome t u line → LeavesOut t u line (write_fault_of Output slip)
+pub out_output : (t u line : List ℕ) (slip : Slip) → GotSome t u line → LeavesLine t u line (write_fault_of Output slip)
 out_output t u line Failed some = some
 out_output t u line NoSlipMemory some = some
 
--- a count that rose later
+-- a count that rose later, and one that rose earlier
 pub rose_later : (a b c : ℕ) → a ≤ b → Rose b c → Rose a c
 rose_later a b c h r = elim r as (λ _. Rose a c) [ inl m ↦ inl (omega (arith, m, h)) | inr e ↦ inr e ]
+
+pub rose_before : (a b c : ℕ) → b ≤ c → Rose a b → Rose a c
+rose_before a b c h r = elim r as (λ _. Rose a c) [ inl m ↦ inl (omega (arith, m, h)) | inr e ↦ inr (omega (arith, e, h)) ]
 
 -- the kind with a kind's code is that kind
 pub kind_back : (k : Kind) → kind_at (kind_code k) ≡ k
@@ -152,35 +223,54 @@ pub told_from : (files : Files) (before : List ℕ) (got : Option (List ℕ)) (b
     → IsIndexOf (bytes_of files base) o i → got ≡ Some (before ++ line_of i) → IsTold files before got base o
 told_from files before got base o i (good, are, spelled, is) line = line ∙ ap (λ x. Some (before ++ line_of x)) is
 
--- a fault of a build isn't one of the words
-pub not_usage : (reads writes outs : Type 0) (fault : Fault) → HasCause reads writes outs fault → fault ≡ Usage → ⊥
-not_usage reads writes outs fault h e = subst (HasCause reads writes outs) e h
+-- a fault of a command isn't one of the words
+pub not_usage : (c : Command) (reads writes : List ℕ → Type 0) (outs : Type 0) (fault : Fault) → HasCause c reads writes outs fault → fault ≡ Usage → ⊥
+not_usage c reads writes outs fault h e = subst (HasCause c reads writes outs) e h
 
--- where no count rose and the file is good, only want of memory is left
-pub nothing_left : (reads writes outs : Type 0) (file : List ℕ) (o : BuildOptions) (fault : Fault)
-    → HasCause reads writes outs fault → Tells file o fault → IsGood file o → (reads → ⊥) → (writes → ⊥) → (outs → ⊥) → fault ≡ NoMemory
-nothing_left reads writes outs file o Usage h t g a b c = absurd h
-nothing_left reads writes outs file o (Setting n v l u) h t g a b c = absurd h
-nothing_left reads writes outs file o (Read Base) h t g a b c = absurd (a h)
-nothing_left reads writes outs file o (Read Index) h t g a b c = absurd h
-nothing_left reads writes outs file o (Read Queries) h t g a b c = absurd h
-nothing_left reads writes outs file o (Read Output) h t g a b c = absurd h
-nothing_left reads writes outs file o (Malformed Base place (Points rule)) h t g a b c = let e = g.0 in cc
-nothing_left reads writes outs file o (Malformed Base place (IndexRule rule)) h t g a b c = absurd t
-nothing_left reads writes outs file o (Malformed Index place rule) h t g a b c = absurd t
-nothing_left reads writes outs file o (Malformed Queries place rule) h t g a b c = absurd t
-nothing_left reads writes outs file o (Malformed Output place rule) h t g a b c = absurd t
-nothing_left reads writes outs file o (Unfit r w f x) h t g a b c = absurd h
-nothing_left reads writes outs file o (Write Base) h t g a b c = absurd h
-nothing_left reads writes outs file o (Write Index) h t g a b c = absurd (b h)
-nothing_left reads writes outs file o (Write Queries) h t g a b c = absurd h
-nothing_left reads writes outs file o (Write Output) h t g a b c = absurd (c h)
-nothing_left reads writes outs file o NoMemory h t g a b c = refl
-nothing_left reads writes outs file o (TooLarge n v l) h t g a b c =
-    elim t as (λ _. TooLarge n v l ≡ NoMemory) [
-      | inl e ↦ let none = g.0 in cc
-      | inr m ↦ let small = g.1 in absurd (omega (arith, m.2, m.3))
-    ]
+-- where no count rose and nothing is refused, only want of memory is left
+quiet_read : (c : Command) (reads writes : List ℕ → Type 0) (outs : Type 0) (role : Role) → IsQuiet c reads writes outs → IsReadOf c reads role → ⊥
+quiet_read (Builds base index o) reads writes outs Base q h = q.0 h
+quiet_read (Builds base index o) reads writes outs Index q h = h
+quiet_read (Builds base index o) reads writes outs Queries q h = h
+quiet_read (Builds base index o) reads writes outs Output q h = h
+quiet_read (Queried base index queries o) reads writes outs Base q h = q.0 h
+quiet_read (Queried base index queries o) reads writes outs Index q h = q.1 h
+quiet_read (Queried base index queries o) reads writes outs Queries q h = q.2 h
+quiet_read (Queried base index queries o) reads writes outs Output q h = h
+
+quiet_write : (c : Command) (reads writes : List ℕ → Type 0) (outs : Type 0) (role : Role) → IsQuiet c reads writes outs → IsWriteOf c writes outs role → ⊥
+quiet_write (Builds base index o) reads writes outs Base q h = h
+quiet_write (Builds base index o) reads writes outs Index q h = q.1 h
+quiet_write (Builds base index o) reads writes outs Queries q h = h
+quiet_write (Builds base index o) reads writes outs Output q h = q.2 h
+quiet_write (Queried base index queries o) reads writes outs Base q h = h
+quiet_write (Queried base index queries o) reads writes outs Index q h = h
+quiet_write (Queried base index queries o) reads writes outs Queries q h = h
+quiet_write (Queried base index queries o) reads writes outs Output q h = q.3 h
+
+pub nothing_left : (c : Command) (files : Files) (reads writes : List ℕ → Type 0) (outs : Type 0) (fault : Fault)
+    → HasCause c reads writes outs fault → Tells c files fault → refusal c files ≡ None → IsQuiet c reads writes outs → fault ≡ NoMemory
+nothing_left c files reads writes outs Usage h t g q = absurd h
+nothing_left c files reads writes outs (Setting n v l u) h t g q = absurd h
+nothing_left c files reads writes outs (Read role) h t g q = absurd (quiet_read c reads writes outs role q h)
+nothing_left c files reads writes outs (Malformed role place rule) h t g q = cc
+nothing_left c files reads writes outs (Unfit role what found wanted) h t g q = cc
+nothing_left c files reads writes outs (Write role) h t g q = absurd (quiet_write c reads writes outs role q h)
+nothing_left c files reads writes outs NoMemory h t g q = refl
+nothing_left c files reads writes outs (TooLarge n v l) h t g q = cc
+
+-- what is said of what is told
+pub told_here : {A : Type 0} {P : A → Type 0} (o : Option A) → ((x : A) → o ≡ Some x → P x) → IfSome o P
+told_here None f = tt
+told_here (Some x) f = f x refl
+
+-- two facts of what is told
+pub both_pair : {A : Type 0} (P Q : A → Type 0) (o p : Option A) → p ≡ o → IfSome o P → IfSome p Q → IfSome o (λ x. P x × Q x)
+both_pair P Q o p e a b = both_told {P = P} {Q = Q} {R = λ x. P x × Q x} o p e a b (λ x u v. (u, v))
+
+pub told_stays : (old new : Option Files) → new ≡ old → IfSome old (λ f. new ≡ Some f)
+told_stays None new e = tt
+told_stays (Some f) new e = e
 
 -- a shelf that holds what it held
 pub told_same : (P : Files → Files → Type 0) (old new : Option Files) → new ≡ old → ((f : Files) → P f f) → IfSome old (λ f. (g : Files) × (new ≡ Some g) × P f g)
@@ -195,9 +285,9 @@ told_line i kind layers edges k l e =
     λ j. record { kind = sym k j; count = i.count; dim = i.dim; degree = i.degree; start = i.start; layers = l j; edges = e j } in
     ap built_text same ∙ line_is i
 
--- what is said of a build holds of words that mean it
-pub on_build : (Q : List ℕ → List ℕ → BuildOptions → Type 0) (m : Meaning) (base index : List ℕ) (o : BuildOptions) → Means (Builds base index o) ≡ m → Q base index o → OnBuild m Q
-on_build Q m base index o e q = subst (λ n. OnBuild n Q) e q
+-- what is said of a command holds of words that mean it
+pub on_command : (Q : Command → Type 0) (m : Meaning) (c : Command) → Means c ≡ m → Q c → OnCommand m Q
+on_command Q m c e q = subst (λ n. OnCommand n Q) e q
 
 -- what is said of a fault holds where it came
 pub on_fault : (P : Fault → Type 0) (o : Option Fault) (f : Fault) → o ≡ Some f → P f → IfSome o P

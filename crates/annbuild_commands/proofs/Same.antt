@@ -1,6 +1,5 @@
 -- The builder's index is the one that a build must give.
-use Rattle.std.proofs.Common.{◌≡◌, ◌∙◌, ℕ, List, refl, Option}
-use Rattle.graph_files.specs.Index.{Contents}
+use Rattle.std.proofs.Common.{◌≡◌, ◌∙◌, ℕ, List, refl}
 use Rattle.vamana_build.specs.declared.settings.VamanaSettings.{VamanaSettings}
 use Rattle.vamana_build.specs.Builds.{order_of}
 use Rattle.vamana_build.specs.VamanaIndex.{vamana_index}

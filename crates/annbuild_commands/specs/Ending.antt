@@ -1,17 +1,30 @@
--- What the words mean, as a condition of what is said of a call.
-use Rattle.std.specs.Prelude.{◌≡◌, ◌⊎◌, ℕ, List, Option, Some, None}
+-- What the words mean, as a condition of what is said of a call, and the line of a fault.
+use Rattle.std.specs.Prelude.{◌≡◌, ◌⊎◌, ℕ, ◌<◌, List, ◌++◌, length, take, Option, Some, None}
 use Rattle.annbuild_words.specs.Asked.{Command, Meaning}
-use Rattle.annbuild_words.specs.Asked.Command.{Builds}
-use Rattle.annbuild_words.specs.Asked.Meaning.{Nothing', Outside', Means}
-use Rattle.annbuild_words.specs.declared.request.BuildOptions.{BuildOptions}
+use Rattle.annbuild_words.specs.Asked.Meaning.{Means}
+use Rattle.annbuild_words.specs.Lines.{fault_text}
 use Rattle.annbuild_words.specs.declared.fault.Fault.{Fault}
 use Rattle.annbuild_words.specs.declared.fault.Fault.TheVariants.{NoMemory}
 
--- P of a build's file names and settings, where the words mean a build
-abbrev pub OnBuild : Meaning → (List ℕ → List ℕ → BuildOptions → Type 0) → Type 0
-OnBuild (Means (Builds base index options)) P = P base index options
-OnBuild meaning P = Unit {0}
+-- P of the command that the words mean, if they mean one
+abbrev pub OnCommand : Meaning → (Command → Type 0) → Type 0
+OnCommand (Means command) P = P command
+OnCommand meaning P = Unit {0}
+
+-- the words mean no request, or one with a setting out of its range
+abbrev pub IsNoCommand : Meaning → Type 0
+IsNoCommand (Means command) = ⊥
+IsNoCommand meaning = Unit {0}
 
 -- the request was done, or there was no memory
 abbrev pub IsDoneOrNoMemory : Option Fault → Type 0
 IsDoneOrNoMemory fault = (fault ≡ None) ⊎ (fault ≡ Some NoMemory)
+
+-- the line of a fault
+unfoldable pub fault_line : Fault → List ℕ
+fault_line fault = fault_text fault
+
+-- err gained the line of the fault, or a proper prefix of it where a write failed or wanted memory
+abbrev pub TellsOf : (failed : Type 0) → List ℕ → List ℕ → Fault → Type 0
+TellsOf failed before after fault =
+    (after ≡ before ++ fault_line fault) ⊎ (failed × ((k : ℕ) × (k < length (fault_line fault)) × (after ≡ before ++ take k (fault_line fault))))

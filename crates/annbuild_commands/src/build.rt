@@ -1,23 +1,28 @@
 //! `build`: the index of a file of points, from bytes to bytes.
-ghost use Rattle.std.specs.Prelude.{◌≡◌, ◌+◌, ◌++◌, ◌*◌, ◌<◌, ◌≤◌, ℕ, List, Some, length, IfOk, IfErr, IfSome, OnOk, OnErr};
+ghost use Rattle.std.specs.Prelude.{◌≡◌, ◌+◌, ◌++◌, ◌*◌, ◌<◌, ◌≤◌, ℕ, List, Some, None, length, IfOk, IfErr, IfSome, OnOk, OnErr};
 ghost use Rattle.ann_shelf.specs.Faults.{Rose, NoneFell};
 ghost use Rattle.ann_shelf.specs.Files.{Files, bytes_of, with_file};
 ghost use Rattle.vamana_build.specs.Builds.{batches_of};
 ghost use Rattle.graph_files.specs.View.{contents};
 ghost use Rattle.graph_files.specs.WellFormed.{IsWellFormed};
 ghost use Rattle.annbuild_words.specs.Asked.{AreInRange};
+ghost use Rattle.annbuild_words.specs.Asked.Command.{Builds};
 ghost use Rattle.annbuild_commands.specs.IndexOf.{index_of, file_of, line_of, words_of};
-ghost use Rattle.annbuild_commands.specs.Building.{index_text, index_line, IsGood, IsIndexOf, IsBuilt, IsTold, IsInOrder, Tells, HasCause, IsOfWriting, Leaves, LeavesOut};
+ghost use Rattle.annbuild_commands.specs.Building.{build_refusal, IsIndexOf, IsInOrder, IsOfWriting, LeavesFile, LeavesLine};
+ghost use Rattle.annbuild_commands.specs.Commands.{Stores, Prints, refusal, Tells, HasCause, Leaves, LeavesOut, WritesInOrder};
 
-use crate::faults::{points_fault, write_fault};
+use crate::faults::write_fault;
+use crate::files::read_points_of;
 use ann_defs::Alpha;
 use ann_shelf::{Gate, NoMemory, Out, Quantity, Shelf, write_all};
-use annbuild_words::{BuildOptions, BuiltLine, Fault, Line, Role, built_line};
-use bin_files::{Points, read_points};
+use annbuild_words::{
+    BuildOptions, BuildRequest, BuiltLine, Fault, Line, PoolKind, Role, built_line,
+};
+use bin_files::Points;
 use graph_files::{Index, write_index};
 use std::alloc::Global;
 use std::thread::Threads;
-use steal_pool::{Rounds, SerialRounds};
+use steal_pool::{RayonRounds, Rounds, SerialRounds};
 use vamana_build::{Plan, Vamana, VamanaSettings};
 
 /// The greatest number of words that the rows of an index take.
@@ -89,6 +94,31 @@ fn index_on<R: Threads + Sync, P: Rounds, G: Gate + Sync>(
     Ok(builder.into_index())
 }
 
+/// Builds the index on the pool that is asked for. The serial pool uses one worker.
+fn index_by<R: Threads + Sync, G: Gate + Sync>(
+    rt: &R,
+    alloc: Global,
+    points: &Points,
+    options: &BuildOptions,
+    gate: &G,
+) -> Result<Index, NoMemory>
+    requires options { AreInRange options.now }
+    requires words { words_of (length points.now.vectors) options.now ≤ 134217728 }
+    ensures index { IfOk result (λ i. contents i ≡ index_of points.now.vectors options.now) }
+    ensures well_formed { IfOk result (λ i. IsWellFormed (contents i)) }
+{
+    match options.pool {
+        PoolKind::Serial => {
+            let mut pool = SerialRounds::new();
+            index_on(rt, alloc, points, options, &mut pool, gate)
+        }
+        PoolKind::Rayon => {
+            let mut pool = RayonRounds::new(options.workers);
+            index_on(rt, alloc, points, options, &mut pool, gate)
+        }
+    }
+}
+
 /// The line of a build.
 fn line(index: &Index) -> Line
     requires { IsWellFormed (contents index.now) }
@@ -110,6 +140,7 @@ fn prepared<R: Threads + Sync, F: Shelf, G: Gate + Sync>(
     rt: &R,
     alloc: Global,
     base: &str,
+    _name: &str,
     options: &BuildOptions,
     shelf: &mut F,
     gate: &G,
@@ -117,14 +148,15 @@ fn prepared<R: Threads + Sync, F: Shelf, G: Gate + Sync>(
     requires { AreInRange options.now }
     ensures index { IfOk result (λ i. IfSome (F.held shelf.old) (λ files. IsIndexOf (bytes_of files base.now) options.now (contents i))) }
     ensures well_formed { IfOk result (λ i. IsWellFormed (contents i)) }
-    ensures tells { IfErr result (λ fault. IfSome (F.held shelf.old) (λ files. Tells (bytes_of files base.now) options.now fault)) }
-    ensures cause { IfErr result (HasCause (Rose (F.read_faults shelf.old base.now) (F.read_faults shelf.new base.now)) ⊥ ⊥) }
+    ensures tells { IfErr result (λ fault. IfSome (F.held shelf.old) (λ files. Tells (Builds base.now _name.now options.now) files fault)) }
+    ensures cause { IfErr result (HasCause (Builds base.now _name.now options.now) (λ name. Rose (F.read_faults shelf.old name) (F.read_faults shelf.new name)) (λ name. ⊥) ⊥) }
     ensures same { F.held shelf.new ≡ F.held shelf.old }
+    ensures reads { NoneFell (F.read_faults shelf.old) (F.read_faults shelf.new) }
     ensures writes { NoneFell (F.write_faults shelf.old) (F.write_faults shelf.new) }
 {
-    let points = match read_points(alloc, shelf, base) {
+    let points = match read_points_of(alloc, shelf, Role::Base, base) {
         Ok(points) => points,
-        Err(fault) => return Err(points_fault(Role::Base, fault)),
+        Err(fault) => return Err(fault),
     };
     let words = u64::from(points.count()) * (u64::from(options.degree) + 1);
     if words > MAX_WORDS {
@@ -134,8 +166,7 @@ fn prepared<R: Threads + Sync, F: Shelf, G: Gate + Sync>(
             limit: MAX_WORDS,
         });
     }
-    let mut pool = SerialRounds::new();
-    match index_on(rt, alloc, &points, options, &mut pool, gate) {
+    match index_by(rt, alloc, &points, options, gate) {
         Ok(index) => Ok(index),
         Err(NoMemory) => Err(Fault::NoMemory),
     }
@@ -143,20 +174,22 @@ fn prepared<R: Threads + Sync, F: Shelf, G: Gate + Sync>(
 
 /// Writes an index, and tells of it.
 fn written<F: Shelf, O: Out>(
+    _base: &str,
     name: &str,
     index: &Index,
+    _options: &BuildOptions,
     shelf: &mut F,
     out: &mut O,
 ) -> Result<(), Fault>
     requires { IsWellFormed (contents index.now) }
     ensures file { OnOk result (IfSome (F.held shelf.old) (λ files. F.held shelf.new ≡ Some (with_file files name.now (file_of (contents index.now))))) }
     ensures line { OnOk result (IfSome (O.written out.old) (λ before. O.written out.new ≡ Some (before ++ line_of (contents index.now)))) }
-    ensures cause { IfErr result (HasCause ⊥ (Rose (F.write_faults shelf.old name.now) (F.write_faults shelf.new name.now)) (Rose (O.faults out.old) (O.faults out.new))) }
+    ensures cause { IfErr result (HasCause (Builds _base.now name.now _options.now) (λ file. ⊥) (λ file. Rose (F.write_faults shelf.old file) (F.write_faults shelf.new file)) (Rose (O.faults out.old) (O.faults out.new))) }
     ensures writing { IfErr result IsOfWriting }
     ensures leaves { IfErr result (λ fault. IfSome (F.held shelf.old) (λ files. (after : Files) × (F.held shelf.new ≡ Some after)
-        × Leaves files after name.now (file_of (contents index.now)) fault)) }
+        × LeavesFile files after name.now (file_of (contents index.now)) fault)) }
     ensures leaves_out { IfErr result (λ fault. IfSome (O.written out.old) (λ before. (after : List ℕ) × (O.written out.new ≡ Some after)
-        × LeavesOut before after (line_of (contents index.now)) fault)) }
+        × LeavesLine before after (line_of (contents index.now)) fault)) }
     ensures in_order { OnErr result (IfSome (F.held shelf.old) (λ files. IsInOrder files (F.held shelf.new) name.now (file_of (contents index.now)) (O.written out.old) (O.written out.new))) }
     ensures reads { NoneFell (F.read_faults shelf.old) (F.read_faults shelf.new) }
 {
@@ -175,31 +208,44 @@ fn written<F: Shelf, O: Out>(
 pub(crate) fn build<R: Threads + Sync, F: Shelf, O: Out, G: Gate + Sync>(
     rt: &R,
     alloc: Global,
-    base: &str,
-    name: &str,
-    options: &BuildOptions,
+    request: &BuildRequest<'_>,
     shelf: &mut F,
     out: &mut O,
     gate: &G,
 ) -> Result<(), Fault>
-    requires { AreInRange options.now }
-    ensures done { OnOk result (IfSome (F.held shelf.old) (λ files. IsBuilt files (F.held shelf.new) base.now name.now options.now)) }
-    ensures told { OnOk result (IfSome (F.held shelf.old) (λ files. IfSome (O.written out.old) (λ before. IsTold files before (O.written out.new) base.now options.now))) }
-    ensures good { OnOk result (IfSome (F.held shelf.old) (λ files. IsGood (bytes_of files base.now) options.now)) }
-    ensures cause { IfErr result (HasCause (Rose (F.read_faults shelf.old base.now) (F.read_faults shelf.new base.now))
-        (Rose (F.write_faults shelf.old name.now) (F.write_faults shelf.new name.now)) (Rose (O.faults out.old) (O.faults out.new))) }
-    ensures tells { IfErr result (λ fault. IfSome (F.held shelf.old) (λ files. Tells (bytes_of files base.now) options.now fault)) }
+    requires { AreInRange request.now.options }
+    ensures stored { OnOk result (IfSome (F.held shelf.old) (λ files. Stores (Builds request.now.base.now request.now.index.now request.now.options) files (F.held shelf.new))) }
+    ensures printed { OnOk result (IfSome (F.held shelf.old) (λ files. IfSome (O.written out.old) (λ before. Prints (Builds request.now.base.now request.now.index.now request.now.options) files before (O.written out.new)))) }
+    ensures accepted { OnOk result (IfSome (F.held shelf.old) (λ files. refusal (Builds request.now.base.now request.now.index.now request.now.options) files ≡ None)) }
+    ensures cause { IfErr result (HasCause (Builds request.now.base.now request.now.index.now request.now.options) (λ name. Rose (F.read_faults shelf.old name) (F.read_faults shelf.new name))
+        (λ name. Rose (F.write_faults shelf.old name) (F.write_faults shelf.new name)) (Rose (O.faults out.old) (O.faults out.new))) }
+    ensures tells { IfErr result (λ fault. IfSome (F.held shelf.old) (λ files. Tells (Builds request.now.base.now request.now.index.now request.now.options) files fault)) }
     ensures leaves { IfErr result (λ fault. IfSome (F.held shelf.old) (λ files. (after : Files) × (F.held shelf.new ≡ Some after)
-        × Leaves files after name.now (index_text (bytes_of files base.now) options.now) fault)) }
+        × Leaves (Builds request.now.base.now request.now.index.now request.now.options) files after fault)) }
     ensures leaves_out { IfErr result (λ fault. IfSome (F.held shelf.old) (λ files. IfSome (O.written out.old) (λ before. (after : List ℕ) × (O.written out.new ≡ Some after)
-        × LeavesOut before after (index_line (bytes_of files base.now) options.now) fault))) }
-    ensures in_order { OnErr result (IfSome (F.held shelf.old) (λ files. IsInOrder files (F.held shelf.new) name.now (index_text (bytes_of files base.now) options.now) (O.written out.old) (O.written out.new))) }
+        × LeavesOut (Builds request.now.base.now request.now.index.now request.now.options) (Rose (O.wants out.old) (O.wants out.new)) files before after fault))) }
+    ensures in_order { OnErr result (IfSome (F.held shelf.old) (λ files. WritesInOrder (Builds request.now.base.now request.now.index.now request.now.options) files (F.held shelf.new) (O.written out.old) (O.written out.new))) }
 {
-    let index = match prepared(rt, alloc, base, options, shelf, gate) {
+    let index = match prepared(
+        rt,
+        alloc,
+        request.base,
+        request.index,
+        &request.options,
+        shelf,
+        gate,
+    ) {
         Ok(index) => index,
         Err(fault) => return Err(fault),
     };
-    match written(name, &index, shelf, out) {
+    match written(
+        request.base,
+        request.index,
+        &index,
+        &request.options,
+        shelf,
+        out,
+    ) {
         Ok(()) => Ok(()),
         Err(fault) => Err(fault),
     }

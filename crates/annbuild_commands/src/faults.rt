@@ -1,10 +1,11 @@
 //! The faults of the parts, as faults of the program.
 ghost use Rattle.std.specs.Prelude.{◌≡◌};
-ghost use Rattle.annbuild_commands.specs.Faults.{points_fault_of, write_fault_of};
+ghost use Rattle.annbuild_commands.specs.Faults.{points_fault_of, index_fault_of, write_fault_of};
 
 use ann_shelf::Slip;
 use annbuild_words::{Fault, Role, Rule};
 use bin_files::PointsFault;
+use graph_files::IndexFault;
 
 /// A fault of a file of points.
 pub(crate) fn points_fault(file: Role, fault: PointsFault) -> Fault
@@ -19,6 +20,22 @@ pub(crate) fn points_fault(file: Role, fault: PointsFault) -> Fault
         },
         PointsFault::TooLarge { name, value, limit } => Fault::TooLarge { name, value, limit },
         PointsFault::NoMemory => Fault::NoMemory,
+    }
+}
+
+/// A fault of a file of an index.
+pub(crate) fn index_fault(file: Role, fault: IndexFault) -> Fault
+    ensures { result ≡ index_fault_of file fault }
+{
+    match fault {
+        IndexFault::Read => Fault::Read { file },
+        IndexFault::Malformed { place, rule } => Fault::Malformed {
+            file,
+            place,
+            rule: Rule::Index(rule),
+        },
+        IndexFault::TooLarge { name, value, limit } => Fault::TooLarge { name, value, limit },
+        IndexFault::NoMemory => Fault::NoMemory,
     }
 }
 

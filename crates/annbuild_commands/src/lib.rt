@@ -1,11 +1,19 @@
 //! The commands, and the top call that does what the words ask for.
 //!
 //! `annbuild` reads the words and hands the request to its command. Each command reads its files first, computes
-//! everything, and writes last. Its contract, over any shelf, outputs and gate, is the contract of the program.
+//! everything that it writes to a file, and writes last; `query` prints its lines as they are computed. Every command
+//! has the same clauses, by `specs/Commands`, and the contract of the top call, over any shelf, outputs and gate, is the
+//! contract of the program.
 #![tactic(auto)]
 
 mod build;
 mod faults;
+mod files;
+mod inputs;
+mod lines;
+mod query;
+mod request;
+mod told;
 mod top;
 
 pub use annbuild_words::{Fault, Role, Rule, SettingName, Status, What};

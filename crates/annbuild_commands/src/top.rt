@@ -1,78 +1,98 @@
 //! The top call: what the words ask for, and its status.
-ghost use Rattle.std.specs.Prelude.{◌≡◌, ◌⊎◌, ◌↔◌, List, ℕ, Some, None, map, IfOk, IfErr, IfSome, IfNone, OnOk, string_bytes};
+ghost use Rattle.std.specs.Prelude.{◌≡◌, ◌⊎◌, ◌↔◌, List, ℕ, Some, None, map, IfSome, IfNone, string_bytes};
 ghost use Rattle.ann_shelf.specs.Faults.{Rose};
-ghost use Rattle.ann_shelf.specs.Files.{Files, bytes_of};
+ghost use Rattle.ann_shelf.specs.Files.{Files};
 ghost use Rattle.annbuild_words.specs.Asked.{request_of};
-ghost use Rattle.annbuild_words.specs.Asked.Meaning.{Nothing'};
+ghost use Rattle.annbuild_words.specs.Asked.Meaning.{Nothing', Outside'};
 ghost use Rattle.annbuild_words.specs.Codes.{code_of};
-ghost use Rattle.annbuild_commands.specs.Building.{index_text, index_line, IsGood, IsBuilt, IsTold, IsInOrder, Tells, HasCause, Leaves, LeavesOut};
-ghost use Rattle.annbuild_commands.specs.Ending.{OnBuild, IsDoneOrNoMemory};
+ghost use Rattle.annbuild_words.specs.declared.fault.SettingName.{SettingName};
+ghost use Rattle.annbuild_commands.specs.Commands.{Stores, Prints, refusal, IsQuiet, Tells, HasCause, Leaves, LeavesOut, WritesInOrder};
+ghost use Rattle.annbuild_commands.specs.Ending.{OnCommand, IsNoCommand, IsDoneOrNoMemory, TellsOf};
 
-use crate::build::build;
+use crate::request::answer;
+use crate::told::tell;
 use ann_shelf::{Gate, Out, Shelf};
 use annbuild_words::{Asked, Fault, Status, read_words};
 use std::alloc::Global;
 use std::sync::Wait;
 use std::thread::Threads;
 
-/// Does what the words ask for, over any shelf, output and gate.
+/// Does what the words ask for, over any shelf, outputs and gate.
 ///
-/// `words` are those after the program's own name. Where the code is 0, the index file holds, byte for byte, the index
-/// that the definition gives for the points whose text the data file held, whatever the number of workers and however
-/// their steps fell.
+/// `words` are those after the program's own name. Where `build` ends with code 0, the index file holds, byte for byte,
+/// the index that the definition gives for the points whose text the data file held, whatever the number of workers and
+/// however their steps fell; where `query` does, the output gained the definition's line for each query. A fault is told
+/// in one line on `err`.
 pub fn annbuild<R: Threads + Wait + Sync, F: Shelf, O: Out, G: Gate + Sync>(
     rt: &R,
     alloc: Global,
     words: &[String],
     shelf: &mut F,
     out: &mut O,
-    _err: &mut O,
+    err: &mut O,
     gate: &G,
 ) -> Status
     ensures code { result.code ≡ code_of result.fault }
-    // Usage comes exactly where the words mean no request; then nothing is touched.
+    // Usage comes exactly where the words mean no request, Setting exactly where they mean this setting out of its range; then nothing is touched.
     ensures usage { (result.fault ≡ Some Fault.Usage) ↔ (request_of (map (λ w. string_bytes w) words.now) ≡ Nothing') }
-    ensures untouched { request_of (map (λ w. string_bytes w) words.now) ≡ Nothing' → (F.held shelf.new ≡ F.held shelf.old) × (O.written out.new ≡ O.written out.old) }
-    // With code 0 the index file is the definition's, every other file is as it was, and the output gained the line.
-    ensures built { IfNone result.fault (OnBuild (request_of (map (λ w. string_bytes w) words.now)) (λ base index options. IfSome (F.held shelf.old) (λ files.
-        IsBuilt files (F.held shelf.new) base index options))) }
-    ensures told { IfNone result.fault (OnBuild (request_of (map (λ w. string_bytes w) words.now)) (λ base index options. IfSome (F.held shelf.old) (λ files. IfSome (O.written out.old) (λ before.
-        IsTold files before (O.written out.new) base options)))) }
-    // Code 0 comes only where the file is well formed and the limits hold.
-    ensures good { IfNone result.fault (OnBuild (request_of (map (λ w. string_bytes w) words.now)) (λ base index options. IfSome (F.held shelf.old) (λ files. IsGood (bytes_of files base) options))) }
-    // Where the file is well formed, the limits hold and no call failed, it comes, unless memory is wanting.
-    ensures complete { OnBuild (request_of (map (λ w. string_bytes w) words.now)) (λ base index options. IfSome (F.held shelf.old) (λ files. IsGood (bytes_of files base) options
-        → (Rose (F.read_faults shelf.old base) (F.read_faults shelf.new base) → ⊥) → (Rose (F.write_faults shelf.old index) (F.write_faults shelf.new index) → ⊥) → (Rose (O.faults out.old) (O.faults out.new) → ⊥)
+    ensures setting { (name : SettingName) (value least greatest : ℕ) → (result.fault ≡ Some (Fault.Setting name value least greatest)) ↔ (request_of (map (λ w. string_bytes w) words.now) ≡ Outside' name value least greatest) }
+    ensures untouched { IsNoCommand (request_of (map (λ w. string_bytes w) words.now)) → (F.held shelf.new ≡ F.held shelf.old) × (O.written out.new ≡ O.written out.old) }
+    // With code 0 the shelf holds what the command stores, and the output gained what it prints: for `build` the definition's index and its line, for `query` the lines of the answers.
+    ensures stored { IfNone result.fault (OnCommand (request_of (map (λ w. string_bytes w) words.now)) (λ command. IfSome (F.held shelf.old) (λ files. Stores command files (F.held shelf.new)))) }
+    ensures printed { IfNone result.fault (OnCommand (request_of (map (λ w. string_bytes w) words.now)) (λ command. IfSome (F.held shelf.old) (λ files. IfSome (O.written out.old) (λ before.
+        Prints command files before (O.written out.new))))) }
+    // Code 0 comes only where the bytes of the files show no refusal.
+    ensures accepted { IfNone result.fault (OnCommand (request_of (map (λ w. string_bytes w) words.now)) (λ command. IfSome (F.held shelf.old) (λ files. refusal command files ≡ None))) }
+    // Where they show none and no call failed, it comes, unless memory is wanting.
+    ensures complete { OnCommand (request_of (map (λ w. string_bytes w) words.now)) (λ command. IfSome (F.held shelf.old) (λ files. refusal command files ≡ None
+        → IsQuiet command (λ name. Rose (F.read_faults shelf.old name) (F.read_faults shelf.new name)) (λ name. Rose (F.write_faults shelf.old name) (F.write_faults shelf.new name)) (Rose (O.faults out.old) (O.faults out.new))
         → IsDoneOrNoMemory result.fault)) }
-    // Every fault has its cause: a count that rose, or the bytes of the file.
-    ensures cause { IfSome result.fault (λ fault. OnBuild (request_of (map (λ w. string_bytes w) words.now)) (λ base index options.
-        HasCause (Rose (F.read_faults shelf.old base) (F.read_faults shelf.new base)) (Rose (F.write_faults shelf.old index) (F.write_faults shelf.new index)) (Rose (O.faults out.old) (O.faults out.new)) fault)) }
-    ensures tells { IfSome result.fault (λ fault. OnBuild (request_of (map (λ w. string_bytes w) words.now)) (λ base index options. IfSome (F.held shelf.old) (λ files. Tells (bytes_of files base) options fault))) }
+    // Every fault has its cause: a count that rose, or the bytes of the files.
+    ensures cause { IfSome result.fault (λ fault. OnCommand (request_of (map (λ w. string_bytes w) words.now)) (λ command.
+        HasCause command (λ name. Rose (F.read_faults shelf.old name) (F.read_faults shelf.new name)) (λ name. Rose (F.write_faults shelf.old name) (F.write_faults shelf.new name)) (Rose (O.faults out.old) (O.faults out.new)) fault)) }
+    ensures tells { IfSome result.fault (λ fault. OnCommand (request_of (map (λ w. string_bytes w) words.now)) (λ command. IfSome (F.held shelf.old) (λ files. Tells command files fault))) }
     // What stands after a fault.
-    ensures leaves { IfSome result.fault (λ fault. OnBuild (request_of (map (λ w. string_bytes w) words.now)) (λ base index options. IfSome (F.held shelf.old) (λ files. (after : Files) × (F.held shelf.new ≡ Some after)
-        × Leaves files after index (index_text (bytes_of files base) options) fault))) }
-    ensures leaves_out { IfSome result.fault (λ fault. OnBuild (request_of (map (λ w. string_bytes w) words.now)) (λ base index options. IfSome (F.held shelf.old) (λ files. IfSome (O.written out.old) (λ before.
-        (after : List ℕ) × (O.written out.new ≡ Some after) × LeavesOut before after (index_line (bytes_of files base) options) fault)))) }
-    // The output got something only where the index file is whole.
-    ensures in_order { IfSome result.fault (λ fault. OnBuild (request_of (map (λ w. string_bytes w) words.now)) (λ base index options. IfSome (F.held shelf.old) (λ files.
-        IsInOrder files (F.held shelf.new) index (index_text (bytes_of files base) options) (O.written out.old) (O.written out.new)))) }
-    // Nothing is written on err.
-    ensures silent { O.written _err.new ≡ O.written _err.old }
+    ensures leaves { IfSome result.fault (λ fault. OnCommand (request_of (map (λ w. string_bytes w) words.now)) (λ command. IfSome (F.held shelf.old) (λ files. (after : Files) × (F.held shelf.new ≡ Some after)
+        × Leaves command files after fault))) }
+    ensures leaves_out { IfSome result.fault (λ fault. OnCommand (request_of (map (λ w. string_bytes w) words.now)) (λ command. IfSome (F.held shelf.old) (λ files. IfSome (O.written out.old) (λ before.
+        (after : List ℕ) × (O.written out.new ≡ Some after) × LeavesOut command (Rose (O.wants out.old) (O.wants out.new)) files before after fault)))) }
+    // The output got something only where the written file is whole.
+    ensures in_order { IfSome result.fault (λ fault. OnCommand (request_of (map (λ w. string_bytes w) words.now)) (λ command. IfSome (F.held shelf.old) (λ files.
+        WritesInOrder command files (F.held shelf.new) (O.written out.old) (O.written out.new)))) }
+    // With code 0 err gained nothing; a fault is told there in its line, which is cut only where a write failed or wanted memory.
+    ensures silent { IfNone result.fault (O.written err.new ≡ O.written err.old) }
+    ensures told { IfSome result.fault (λ fault. IfSome (O.written err.old) (λ before. (after : List ℕ) × (O.written err.new ≡ Some after)
+        × TellsOf (Rose (O.faults err.old) (O.faults err.new) ⊎ Rose (O.wants err.old) (O.wants err.new)) before after fault)) }
 {
     match read_words(words) {
-        Asked::Build(request) => match build(
-            rt,
-            alloc,
-            request.base,
-            request.index,
-            &request.options,
-            shelf,
-            out,
-            gate,
-        ) {
+        Asked::Nothing => refuse(err, Fault::Usage),
+        Asked::Outside {
+            name,
+            value,
+            least,
+            greatest,
+        } => refuse(
+            err,
+            Fault::Setting {
+                name,
+                value,
+                least,
+                greatest,
+            },
+        ),
+        Asked::For(request) => match answer(rt, alloc, &request, shelf, out, gate) {
             Ok(()) => Status::done(),
-            Err(fault) => Status::of(fault),
+            Err(fault) => refuse(err, fault),
         },
-        _ => Status::of(Fault::Usage),
     }
+}
+
+/// The status of a fault, which is told on err.
+fn refuse<O: Out>(err: &mut O, fault: Fault) -> Status
+    ensures status { result ≡ record { code = code_of (Some fault); fault = Some fault } }
+    ensures told { IfSome (O.written err.old) (λ before. (after : List ℕ) × (O.written err.new ≡ Some after)
+        × TellsOf (Rose (O.faults err.old) (O.faults err.new) ⊎ Rose (O.wants err.old) (O.wants err.new)) before after fault) }
+{
+    tell(err, fault);
+    Status::of(fault)
 }

@@ -1,11 +1,10 @@
-use Rattle.std.proofs.Common.{◌≡◌, ◌∙◌, ap, sym, subst, Some, refl, inr}
+use Rattle.std.proofs.Common.{◌∙◌, ap, sym, subst, Some, refl, inr}
 use Rattle.bin_files.proofs.Pieces.{told_then}
 use Rattle.bin_files.specs.Write.{WroteSome}
 use Rattle.ann_shelf.specs.Files.{with_file}
 use Rattle.graph_files.specs.View.{contents}
-use Rattle.annbuild_words.specs.declared.fault.Role.TheVariants.{Index, Output}
 use Rattle.annbuild_commands.specs.IndexOf.{file_of}
-use Rattle.annbuild_commands.specs.Building.{Leaves}
+use Rattle.annbuild_commands.specs.Building.{LeavesFile}
 use Rattle.annbuild_commands.proofs.Ends.{file_is, leaves_index, leaves_output}
 use Rattle.annbuild_commands.proofs.build.written.Goals as goal
 
@@ -13,7 +12,7 @@ pub returns-in-Err-clause-leaves : goal.returns-in-Err-clause-leaves
 returns-in-Err-clause-leaves g c = told_then (g.F.Shelf.held c.args.shelf.now) c.in-Err.ensures.err (λ files some. (
   some.0,
   some.1,
-  subst (Leaves files some.0 c.args.name.now (file_of (contents c.args.index.now))) (sym c.write_fault.ensures)
+  subst (LeavesFile files some.0 c.args.name.now (file_of (contents c.args.index.now))) (sym c.write_fault.ensures)
       (leaves_index files some.0 c.args.name.now (file_of (contents c.args.index.now)) c.in-Err.slip (subst (WroteSome files some.0 c.args.name.now) (file_is (contents c.args.index.now)) some.2)),
 ))
 
@@ -25,7 +24,7 @@ pub returns-in-Err-write_all-clause-leaves : goal.returns-in-Err-write_all-claus
 returns-in-Err-write_all-clause-leaves g c = told_then (g.F.Shelf.held c.args.shelf.now) c.in-Ok.ensures.ok (λ files whole. (
   with_file files c.args.name.now (file_of (contents c.args.index.now)),
   whole ∙ ap (λ text. Some (with_file files c.args.name.now text)) (file_is (contents c.args.index.now)),
-  subst (Leaves files (with_file files c.args.name.now (file_of (contents c.args.index.now))) c.args.name.now (file_of (contents c.args.index.now))) (sym c.write_fault-in-Err-write_all.ensures)
+  subst (LeavesFile files (with_file files c.args.name.now (file_of (contents c.args.index.now))) c.args.name.now (file_of (contents c.args.index.now))) (sym c.write_fault-in-Err-write_all.ensures)
       (leaves_output files _ c.args.name.now (file_of (contents c.args.index.now)) c.in-Err-write_all.slip refl),
 ))
 
