@@ -1,7 +1,18 @@
-//! End-to-end tests over the top call: worked files, refusals, failing calls, and the adapters of the real outside.
+//! End-to-end tests over the top call: worked files and queries, refusals, failing calls, and the adapters of the real
+//! outside.
 #![tactic(auto)]
 
 #[cfg(test)]
 mod adapters;
 #[cfg(test)]
 mod build;
+#[cfg(test)]
+mod calls;
+#[cfg(test)]
+mod failing;
+#[cfg(test)]
+mod files;
+#[cfg(test)]
+mod query;
+#[cfg(test)]
+mod refusals;
