@@ -5,7 +5,10 @@
 //! and no root. `Near` pairs a point's id with its distance.
 #![tactic(auto)]
 
+mod lanes;
 mod squared;
+#[cfg(test)]
+mod tests;
 
 pub use ann_defs::Near;
 pub use squared::dist;
