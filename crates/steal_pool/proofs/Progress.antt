@@ -2,8 +2,8 @@
 use Rattle.std.proofs.Common.{◌≡◌, ◌≢◌, ◌<◌, ◌≤◌, ◌+◌, ◌*◌, ◌/◌, ◌∙◌, ℕ, List, [], ◌∷◌, ◌++◌, map, take, drop, length, get_or, set, ap, sym, subst, arith, Vec, Global}
 use mathlib.Core.Logic.{dite}
 use native.Mathlib.Decide.{ℕ_discrete}
-use Rattle.std.proofs.Math.Nat.{div-mul-le_self, div-le_of_le-mul, mul-le-mul_right, mul-div_cancel_left}
-use Rattle.std.proofs.lemmas.List.{map-set, map-append, take_more, take_more_set, length-map, length-set, length-take-le, drop-take, take-take, take-append-drop, get_or-set_same, get_or-set_other}
+use Rattle.std.proofs.Math.Nat.{div-mul-le_self, div-le_of_le-mul, mul-le-mul_right, mul-div_cancel_left, mul_comm}
+use Rattle.std.proofs.lemmas.List.{map-set, map-append, take_more, take_more_set, length-map, length-set, length-take-le, drop-take, take-take, take-append-drop, take_all, get_or-set_same, get_or-set_other}
 use Rattle.std.proofs.lemmas.Nat.{le-div}
 use Rattle.std.proofs.lemmas.List.Elements.{All-set}
 use Rattle.steal_pool.specs.declared.post.Post.{Post}
@@ -57,6 +57,14 @@ gathered want w n old new before share is =
     ∙ ap (λ (l : List (List ℕ)). take s want ++ l) is
     ∙ take_part s (length new) want
     ∙ ap (λ (k : ℕ). take k want) share
+
+-- from the last share on, the tasks before a share are all of them
+pub gathered_all : (want : List (List ℕ)) (w n : ℕ) (old : List (Vec ℕ Global)) → 0 < w → w ≤ n → map (λ y. y.items) old ≡ take (share_start (length want) w n) want → map (λ y. y.items) old ≡ want
+gathered_all want w n old pos le before =
+    let m : ℕ = length want in
+    let more : w * m ≤ n * m = mul-le-mul_right m le in
+    let turned : m * w ≡ w * m = mul_comm m w in
+    before ∙ take_all (share_start m w n) want (le-div m (n * m) w pos (omega arith))
 
 pub share_fits : (want : List (List ℕ)) (w n : ℕ) (old new : List (Vec ℕ Global)) → n < w → map (λ y. y.items) old ≡ take (share_start (length want) w n) want
     → IsShare (length want) w n new → length old + length new ≤ length want

@@ -28,6 +28,13 @@ impl Blocks {
         Blocks { blocks }
     }
 
+    pub(crate) fn into_vec(self) -> Vec<Vec<u32>>
+        ensures { map (λ y. y.items) result.items ≡ self }
+    {
+        let Blocks { blocks } = self;
+        blocks
+    }
+
     /// How many blocks there are: one for each task.
     pub fn count(&self) -> u32
         ensures { result ≡ length self.now }

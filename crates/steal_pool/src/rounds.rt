@@ -1,9 +1,10 @@
 //! Who runs a round.
-ghost use Rattle.std.specs.Prelude.{◌≡◌, ℕ, ◌*◌, ◌<◌, ◌≤◌, length, IfOk};
+ghost use Rattle.std.specs.Prelude.{◌≡◌, ℕ, ◌*◌, ◌<◌, ◌≤◌, length, map, IfOk};
 ghost use Rattle.steal_pool.specs.Work.{AllServe};
 
 use crate::blocks::Blocks;
 use crate::post::Post;
+use crate::round::run_stolen;
 use crate::serial::run_all;
 use crate::shares::run_shares;
 use crate::work::Work;
@@ -18,6 +19,8 @@ pub enum Way {
     Serial,
     /// One fixed share of the tasks for each post, in threads of `rayon`.
     Shares,
+    /// Shares whose tasks the workers claim and steal from each other, in threads of std.
+    Stealing,
 }
 
 /// A pool of 1 to 64 workers, which runs rounds.
@@ -55,10 +58,30 @@ pub trait Rounds {
         ensures serve { AllServe (W.serves work.now) posts.new }
         ensures workers { count self.new ≡ count self.old }
     {
-        let blocks = match self.way() {
-            Way::Serial => run_all(alloc, work, &mut posts[0].scratch, gate)?,
-            Way::Shares => run_shares(rt, alloc, work, posts, gate)?,
-        };
+        let blocks = run_in_way(self.way(), rt, alloc, work, posts, gate)?;
         Ok(Blocks::of(blocks))
+    }
+}
+
+// Runs a round in this way.
+fn run_in_way<R: Threads + Sync, W: Work, G: Gate + Sync>(
+    way: Way,
+    rt: &R,
+    alloc: Global,
+    work: &W,
+    posts: &mut [Post<W::Scratch>],
+    gate: &G,
+) -> Result<Vec<Vec<u32>>, NoMemory>
+    requires workers { (0 < length posts.old) × (length posts.old ≤ 64) }
+    requires serve { AllServe (W.serves work.now) posts.old }
+    requires some { (0 < length (W.want work.now)) × (0 < W.wide work.now) }
+    requires small { length (W.want work.now) * W.wide work.now ≤ 134217728 }
+    ensures blocks { IfOk result (λ v. map (λ y. y.items) v.items ≡ W.want work.now) }
+    ensures serve { AllServe (W.serves work.now) posts.new }
+{
+    match way {
+        Way::Serial => run_all(alloc, work, &mut posts[0].scratch, gate),
+        Way::Shares => run_shares(rt, alloc, work, posts, gate),
+        Way::Stealing => run_stolen(rt, alloc, work, posts, gate),
     }
 }

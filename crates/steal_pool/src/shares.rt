@@ -36,7 +36,7 @@ pub(crate) fn run_shares<R: Threads + Sync, W: Work, G: Gate + Sync>(
 }
 
 // The first task of a worker's share.
-fn first_task(tasks: u32, workers: u32, worker: u32) -> u32
+pub(crate) fn first_task(tasks: u32, workers: u32, worker: u32) -> u32
     requires { (worker ≤ workers) × (0 < workers) × (workers ≤ 64) }
     ensures start { result ≡ share_start tasks workers worker }
     ensures within { result ≤ tasks }

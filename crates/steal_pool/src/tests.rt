@@ -5,6 +5,7 @@ use crate::post::Post;
 use crate::rayon_rounds::RayonRounds;
 use crate::rounds::Rounds;
 use crate::serial::SerialRounds;
+use crate::steal_rounds::StealRounds;
 use crate::work::Work;
 use ann_shelf::{FreeGate, NoMemory};
 use std::alloc::Global;
@@ -12,8 +13,8 @@ use std::test::Fail;
 
 // Task t wants t and t·t. A scratch that serves is 7.
 #[derive(Drop)]
-struct Squares {
-    tasks: u32,
+pub(crate) struct Squares {
+    pub(crate) tasks: u32,
 }
 
 impl Work for Squares {
@@ -88,6 +89,33 @@ fn rayon_blocks_of_many_workers_are_the_wanted_ones(rt: HostRuntime) -> Result<(
     let work = Squares { tasks: 5 };
     let mut posts = posts_of(rt.alloc(), 64)?;
     let mut pool = RayonRounds::new(64);
+    let blocks = pool.run_round(&rt, rt.alloc(), &work, posts.as_mut_slice(), &FreeGate)?;
+    assert!(rt; blocks.count() == 5);
+    for task in 0..5u32 {
+        assert!(rt; blocks.get(task) == WANTED[task as usize].as_slice());
+    }
+    Ok(())
+}
+
+#[test]
+fn steal_blocks_of_three_workers_are_the_wanted_ones(rt: HostRuntime) -> Result<(), Fail> {
+    let work = Squares { tasks: 5 };
+    let mut posts = [Post::new(7u32), Post::new(7u32), Post::new(7u32)];
+    let mut pool = StealRounds::new(3);
+    assert!(rt; pool.workers() == 3);
+    let blocks = pool.run_round(&rt, rt.alloc(), &work, &mut posts, &FreeGate)?;
+    assert!(rt; blocks.count() == 5);
+    for task in 0..5u32 {
+        assert!(rt; blocks.get(task) == WANTED[task as usize].as_slice());
+    }
+    Ok(())
+}
+
+#[test]
+fn steal_blocks_of_many_workers_are_the_wanted_ones(rt: HostRuntime) -> Result<(), Fail> {
+    let work = Squares { tasks: 5 };
+    let mut posts = posts_of(rt.alloc(), 64)?;
+    let mut pool = StealRounds::new(64);
     let blocks = pool.run_round(&rt, rt.alloc(), &work, posts.as_mut_slice(), &FreeGate)?;
     assert!(rt; blocks.count() == 5);
     for task in 0..5u32 {

@@ -1,6 +1,6 @@
 use Rattle.std.proofs.Common.{◌≡◌, ◌<◌, ℕ, List, map, take, drop, length, sym, ap, ◌∙◌, subst, arith, IsSomeAnd, Option, Vec, Global}
 use Rattle.steal_pool.specs.Shares.{share_start, IsShare, HasDone}
-use Rattle.steal_pool.proofs.Progress.{gathered, from_set, serve_set}
+use Rattle.steal_pool.proofs.Progress.{gathered, gathered_all, from_set, serve_set}
 use Rattle.steal_pool.proofs.shares.gather.Goals as goal
 
 pub loop-post-preserved : goal.loop-post-preserved
@@ -19,3 +19,7 @@ loop-post-preserved g c =
       done = from_set (HasDone want w) c.loop-post.posts at _ i.done;
       serve = serve_set (g.W.Work.serves c.args.work.now) c.loop-post.posts at _ (i.serve at c.post-item.result lt) i.serve;
     }
+
+pub returns-clause-blocks : goal.returns-clause-blocks
+returns-clause-blocks g c =
+    gathered_all (g.W.Work.want c.args.work.now) (length c.args.posts.now) c.loop-post.post-index c.loop-post.blocks.items c.requires.workers (omega (arith, c.loop-post-test.false, c.loop-post.auto.posts)) c.loop-post.invariant.blocks

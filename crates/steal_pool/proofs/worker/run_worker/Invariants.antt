@@ -1,0 +1,10 @@
+use Rattle.std.proofs.Common.{◌≡◌}
+use Rattle.steal_pool.specs.Worker.{Ready}
+use Rattle.steal_pool.proofs.worker.run_worker.Given as goal
+
+abbrev pub invariant-loop-turn : goal.invariant-loop-turn
+invariant-loop-turn g l = record {
+  ready : Ready l.board (g.W.Work.want l.work) l.pass;
+  number : l.pass.view.number ≡ l.fn.pass.view.number;
+  serves : g.W.Work.serves l.work l.scratch;
+}

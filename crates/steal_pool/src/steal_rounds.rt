@@ -1,0 +1,41 @@
+//! Many workers that steal tasks from each other.
+ghost use Rattle.std.specs.Prelude.{◌≡◌, ◌<◌, ◌≤◌};
+
+use crate::rounds::{Rounds, Way};
+
+/// Workers that run one `Round` for each call: a fixed share each at first, and then what they steal from each other.
+///
+/// A thread of its own stands for each worker where one can be started.
+#[derive(Drop)]
+pub struct StealRounds {
+    workers: u32,
+    ghost in_range: { (0 < workers) × (workers ≤ 64) },
+}
+
+impl StealRounds {
+    ghost use Rattle.steal_pool.specs.Pools.{steal_workers};
+
+    /// A pool of 1 to 64 workers. Takes no memory.
+    pub fn new(workers: u32) -> StealRounds
+        requires { (0 < workers) × (workers ≤ 64) }
+        ensures { steal_workers result ≡ workers }
+    {
+        StealRounds { workers }
+    }
+}
+
+impl Rounds for StealRounds {
+    ghost use Rattle.steal_pool.specs.Pools.{steal_workers};
+
+    ghost count = { steal_workers };
+
+    fn workers(&self) -> u32 {
+        self.workers
+    }
+
+    fn way(&self) -> Way {
+        Way::Stealing
+    }
+
+    ghost few = { λ p. p.in_range };
+}

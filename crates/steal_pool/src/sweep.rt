@@ -1,0 +1,85 @@
+//! What the caller does once the workers have returned.
+ghost use Rattle.std.specs.Prelude.{◌≡◌, ◌<◌, ℕ, length};
+ghost use Rattle.steal_pool.specs.Opened.{caller_of};
+ghost use Rattle.steal_pool.specs.Worker.{Fits, Ready, Grown, HasPass};
+ghost use Rattle.steal_pool.specs.Shares.{EachFrom};
+ghost use Rattle.steal_pool.specs.Steps.{AllBack, HasEntryOf};
+ghost use Rattle.steal_pool.specs.Work.{AllServe};
+
+use crate::board::{Board, Pass};
+use crate::post::Post;
+use crate::work::Work;
+use crate::worker::try_task;
+use ann_shelf::Gate;
+
+// Takes each pass out of its post and joins it. The deques go, with what is left in them.
+pub(crate) fn join_all<W: Work>(
+    board: &Board,
+    work: &W,
+    posts: &mut [Post<W::Scratch>],
+    own: &mut Pass,
+)
+    requires own { own.old ≡ caller_of board.now board.now.size.workers }
+    requires posts { (length posts.old ≡ board.now.size.workers) × (0 < board.now.size.tasks) }
+    requires ready { EachFrom 0 (HasPass board.now (W.want work.now)) posts.old }
+    requires serve { AllServe (W.serves work.now) posts.old }
+    ensures ready { Ready board.now (W.want work.now) own.new }
+    ensures back { AllBack own.new.view }
+    ensures serve { AllServe (W.serves work.now) posts.new }
+{
+    for worker in 0..posts.len() {
+        let post = &mut posts[worker];
+        let Some(pass) = post.pass.take() else {
+            unreachable!()
+        };
+        post.deque = None;
+        board.join(own, pass);
+    }
+}
+
+// Loads the word of a task, and runs the task if it is left.
+fn sweep_task<W: Work, G: Gate>(
+    board: &Board,
+    work: &W,
+    scratch: &mut W::Scratch,
+    own: &mut Pass,
+    task: u32,
+    gate: &G,
+)
+    requires fits { Fits board.now.size (W.want work.now) (W.wide work.now) }
+    requires ready { Ready board.now (W.want work.now) own.old }
+    requires back { AllBack own.old.view }
+    requires task { task < length (W.want work.now) }
+    requires serves { W.serves work.now scratch.old }
+    ensures ready { Ready board.now (W.want work.now) own.new }
+    ensures number { own.new.view.number ≡ own.old.view.number }
+    ensures more { Grown own.old.view own.new.view }
+    ensures got { HasEntryOf own.new.view task }
+    ensures serves { W.serves work.now scratch.new }
+{
+    match board.look(own, task) {
+        Some(_) => {}
+        None => try_task(board, work, scratch, own, task, gate),
+    }
+}
+
+// Runs what the workers left.
+pub(crate) fn sweep<W: Work, G: Gate>(
+    board: &Board,
+    work: &W,
+    scratch: &mut W::Scratch,
+    own: &mut Pass,
+    gate: &G,
+)
+    requires fits { Fits board.now.size (W.want work.now) (W.wide work.now) }
+    requires ready { Ready board.now (W.want work.now) own.old }
+    requires back { AllBack own.old.view }
+    requires serves { W.serves work.now scratch.old }
+    ensures ready { Ready board.now (W.want work.now) own.new }
+    ensures all { (t : ℕ) → t < length (W.want work.now) → HasEntryOf own.new.view t }
+    ensures serves { W.serves work.now scratch.new }
+{
+    for task in 0..work.tasks() {
+        sweep_task(board, work, scratch, own, task, gate);
+    }
+}

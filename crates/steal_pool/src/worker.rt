@@ -1,0 +1,192 @@
+//! What a worker does in a stolen round.
+ghost use Rattle.std.specs.Prelude.{◌≡◌, ◌<◌, ◌≤◌, ◌*◌, ℕ, length, slice_index_or};
+ghost use Rattle.steal_pool.specs.Worker.{Fits, Ready, Grown, HasPass};
+ghost use Rattle.steal_pool.specs.Shares.{EachFrom};
+ghost use Rattle.steal_pool.specs.Steps.{AllBack, HasEntryOf};
+ghost use Rattle.steal_pool.specs.Work.{AllServe, scratch_of};
+
+use crate::board::{Board, Claim, Pass};
+use crate::post::Post;
+use crate::ranges::TaskRange;
+use crate::turns::Search;
+use crate::work::Work;
+use ann_shelf::Gate;
+use crossbeam_deque::{Stealer, Worker};
+use std::thread;
+use std::thread::Threads;
+
+// Claims a task, and runs it if nobody else has it.
+pub(crate) fn try_task<W: Work, G: Gate>(
+    board: &Board,
+    work: &W,
+    scratch: &mut W::Scratch,
+    pass: &mut Pass,
+    task: u32,
+    gate: &G,
+)
+    requires fits { Fits board.now.size (W.want work.now) (W.wide work.now) }
+    requires ready { Ready board.now (W.want work.now) pass.old }
+    requires task { task < length (W.want work.now) }
+    requires serves { W.serves work.now scratch.old }
+    ensures ready { Ready board.now (W.want work.now) pass.new }
+    ensures number { pass.new.view.number ≡ pass.old.view.number }
+    ensures more { Grown pass.old.view pass.new.view }
+    ensures got { AllBack pass.old.view → HasEntryOf pass.new.view task }
+    ensures serves { W.serves work.now scratch.new }
+{
+    if let Claim::Mine = board.claim(pass, task) {
+        gate.task(pass.number(), task);
+        work.run(scratch, task, pass.block());
+        board.finish(pass);
+    }
+}
+
+// Claims each task of a range.
+fn try_range<W: Work, G: Gate>(
+    board: &Board,
+    work: &W,
+    scratch: &mut W::Scratch,
+    pass: &mut Pass,
+    range: TaskRange,
+    gate: &G,
+)
+    requires fits { Fits board.now.size (W.want work.now) (W.wide work.now) }
+    requires ready { Ready board.now (W.want work.now) pass.old }
+    requires tasks { range.to ≤ length (W.want work.now) }
+    requires serves { W.serves work.now scratch.old }
+    ensures ready { Ready board.now (W.want work.now) pass.new }
+    ensures number { pass.new.view.number ≡ pass.old.view.number }
+    ensures serves { W.serves work.now scratch.new }
+{
+    for task in range.from()..range.to() {
+        try_task(board, work, scratch, pass, task, gate);
+    }
+}
+
+// Halves a range until one task is left, and claims this task. The upper halves go to the deque. Where the deque
+// refuses one, its tasks are claimed at once.
+fn run_range<W: Work, G: Gate>(
+    board: &Board,
+    work: &W,
+    scratch: &mut W::Scratch,
+    pass: &mut Pass,
+    deque: &mut Worker<TaskRange>,
+    range: TaskRange,
+    gate: &G,
+)
+    requires fits { Fits board.now.size (W.want work.now) (W.wide work.now) }
+    requires ready { Ready board.now (W.want work.now) pass.old }
+    requires tasks { range.to ≤ length (W.want work.now) }
+    requires serves { W.serves work.now scratch.old }
+    ensures ready { Ready board.now (W.want work.now) pass.new }
+    ensures number { pass.new.view.number ≡ pass.old.view.number }
+    ensures serves { W.serves work.now scratch.new }
+{
+    let mut left = range;
+    while let Some(upper) = left.split() {
+        if let Err(refused) = deque.push(upper) {
+            try_range(board, work, scratch, pass, refused, gate);
+        }
+    }
+    try_task(board, work, scratch, pass, left.from(), gate);
+}
+
+// Runs its share, and then the ranges that it finds, in at most 4m + 4 turns for m tasks.
+fn run_worker<W: Work, G: Gate>(
+    board: &Board,
+    work: &W,
+    scratch: &mut W::Scratch,
+    pass: &mut Pass,
+    deque: &mut Worker<TaskRange>,
+    worker: u32,
+    stealers: &[Stealer<TaskRange>],
+    gate: &G,
+)
+    requires fits { Fits board.now.size (W.want work.now) (W.wide work.now) }
+    requires ready { Ready board.now (W.want work.now) pass.old }
+    requires worker { (worker < length stealers.now) × (length stealers.now ≤ 64) }
+    requires serves { W.serves work.now scratch.old }
+    ensures ready { Ready board.now (W.want work.now) pass.new }
+    ensures number { pass.new.view.number ≡ pass.old.view.number }
+    ensures serves { W.serves work.now scratch.new }
+{
+    let tasks = work.tasks();
+    let workers = stealers.len() as u32;
+    if let Some(share) = TaskRange::share(tasks, workers, worker) {
+        run_range(board, work, scratch, pass, deque, share, gate);
+    }
+    let mut search = Search::new(worker);
+    for _turn in 0..4 * u64::from(tasks) + 4 {
+        if search.is_over(workers) {
+            break;
+        }
+        if let Some(range) = search.turn(worker, deque, stealers) {
+            // A range that ends above the tasks is dropped. None is ever pushed.
+            if range.to() <= tasks {
+                run_range(board, work, scratch, pass, deque, range, gate);
+            }
+        }
+    }
+}
+
+// Runs a worker with the pass and the deque that lie in its post.
+fn run_post<W: Work, G: Gate>(
+    board: &Board,
+    work: &W,
+    post: &mut Post<W::Scratch>,
+    worker: u32,
+    stealers: &[Stealer<TaskRange>],
+    gate: &G,
+)
+    requires fits { Fits board.now.size (W.want work.now) (W.wide work.now) }
+    requires ready { HasPass board.now (W.want work.now) worker post.old }
+    requires worker { (worker < length stealers.now) × (length stealers.now ≤ 64) }
+    requires serves { W.serves work.now (scratch_of post.old) }
+    ensures ready { HasPass board.now (W.want work.now) worker post.new }
+    ensures serves { W.serves work.now (scratch_of post.new) }
+{
+    let Some(pass) = &mut post.pass else {
+        unreachable!()
+    };
+    let Some(deque) = &mut post.deque else {
+        unreachable!()
+    };
+    run_worker(
+        board,
+        work,
+        &mut post.scratch,
+        pass,
+        deque,
+        worker,
+        stealers,
+        gate,
+    );
+}
+
+// Runs each worker, in a thread of its own where there is one.
+pub(crate) fn run_workers<R: Threads + Sync, W: Work, G: Gate + Sync>(
+    rt: &R,
+    board: &Board,
+    work: &W,
+    posts: &mut [Post<W::Scratch>],
+    stealers: &[Stealer<TaskRange>],
+    gate: &G,
+)
+    requires fits { Fits board.now.size (W.want work.now) (W.wide work.now) }
+    requires ready { EachFrom 0 (HasPass board.now (W.want work.now)) posts.old }
+    requires workers { (0 < length posts.old) × (length posts.old ≤ 64) × (length stealers.now ≡ length posts.old) }
+    requires serve { AllServe (W.serves work.now) posts.old }
+    ensures ready { EachFrom 0 (HasPass board.now (W.want work.now)) posts.new }
+    ensures serve { AllServe (W.serves work.now) posts.new }
+{
+    let workers = posts.len();
+    thread::for_each_mut(
+        rt,
+        posts,
+        workers,
+        &|i: usize, post: &mut Post<W::Scratch>|
+            requires { (i < length stealers.now) × (length stealers.now ≤ 64) × Fits board.now.size (W.want work.now) (W.wide work.now) × HasPass board.now (W.want work.now) i post.now × W.serves work.now (scratch_of post.now) }
+            ensures { HasPass board.entry.now (W.want work.entry.now) i post.exit.now × W.serves work.entry.now (scratch_of post.exit.now) }
+        { run_post(board, work, post, i as u32, stealers, gate) },
+    );
+}
