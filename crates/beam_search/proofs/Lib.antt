@@ -1,3 +1,9 @@
 pub mod Putting
 pub mod Searched
 pub mod Gathering
+pub mod Inserting
+pub mod Marking
+pub mod Settling
+pub mod Cursor
+pub mod Stepping
+pub mod Taking

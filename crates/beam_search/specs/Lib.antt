@@ -2,3 +2,4 @@ pub mod Room
 pub mod Measured
 pub mod Gathered
 pub mod Lending
+pub mod Marks

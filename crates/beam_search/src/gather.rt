@@ -1,13 +1,14 @@
 //! The candidates of a point.
-ghost use Rattle.std.specs.Prelude.{◌≡◌, ◌+◌, ◌<◌, ◌≤◌, ◌++◌, length, take};
+ghost use Rattle.std.specs.Prelude.{◌≡◌, ◌+◌, ◌-◌, ◌<◌, ◌≤◌, ◌++◌, length, take};
 ghost use Rattle.std.specs.List.{All};
 ghost use Rattle.std.specs.Borrow.{sem};
 ghost use Rattle.ann_defs.specs.Distance.{point};
 ghost use Rattle.ann_defs.specs.Nearness.{near_of, all_near, ids_of};
 ghost use Rattle.beam_search.specs.Gathered.{add_once, gathered, IsGathered};
 ghost use Rattle.beam_search.specs.Lending.{LendsRoom};
+ghost use Rattle.beam_search.specs.Marks.{AreUpTo};
 
-use crate::lists::is_among;
+use crate::marks::next_stamp;
 use crate::scratch::Scratch;
 use ann_defs::Near;
 use bin_files::Points;
@@ -34,48 +35,62 @@ pub fn candidates<'s>(
     ensures* stays { sem 𝓛 (LendsRoom scratch.entry result) }
     ensures gathered { IsGathered points.now.vectors p (ids_of scratch.old.last.visited ++ extra.now) result.now }
 {
+    let stamp = next_stamp(&mut scratch.marks, scratch.last_stamp);
     let len = gather(
         points,
         p,
         &scratch.visited[..scratch.visited_len],
         extra,
         &mut scratch.room,
+        &mut scratch.marks,
+        stamp,
     );
+    scratch.last_stamp = stamp;
     scratch.room.slice_mut(..len)
 }
 
-// Adds x to the first `len`, unless it is p or is there.
-fn add(room: &mut [Near], len: usize, p: u32, x: Near) -> usize
-    requires { len < length room.old }
-    ensures list { take result room.new ≡ add_once p (take len room.old) x }
-    ensures bound { result ≤ len + 1 }
-{
-    if x.id == p || is_among(&room[..len], x) {
-        len
-    } else {
-        room[len] = x;
-        len + 1
-    }
-}
-
-// Gathers the visited and the extra ids without p, each once, at the front of the room.
-fn gather(points: &Points, p: u32, visited: &[Near], extra: &[u32], room: &mut [Near]) -> usize
+// Gathers the visited and the extra ids without p, each once, at the front of the room. What is gathered is marked, and
+// so is p from the start.
+fn gather(
+    points: &Points,
+    p: u32,
+    visited: &[Near],
+    extra: &[u32],
+    room: &mut [Near],
+    marks: &mut [u32],
+    stamp: u32,
+) -> usize
     requires p { p < length points.now.vectors }
+    requires in_range { All (λ x. x.id < length points.now.vectors) visited.now }
     requires extra { All (λ u. u < length points.now.vectors) extra.now }
     requires room { length visited.now + length extra.now ≤ length room.old }
+    requires marks { length marks.old ≡ length points.now.vectors }
+    requires some { 1 ≤ stamp }
+    requires later { AreUpTo (stamp - 1) marks.old }
     ensures list { take result room.new ≡ gathered p (visited.now ++ all_near points.now.vectors (point points.now.vectors p) extra.now) }
     ensures bound { result ≤ length room.old }
+    ensures marks { AreUpTo stamp marks.new }
 {
+    marks[p as usize] = stamp;
     let mut len = 0;
     for x in visited {
-        len = add(room, len, p, *x);
+        if marks[x.id as usize] == stamp {
+            continue;
+        }
+        marks[x.id as usize] = stamp;
+        room[len] = *x;
+        len += 1;
     }
     for id in extra {
-        let near = Near {
+        if marks[*id as usize] == stamp {
+            continue;
+        }
+        marks[*id as usize] = stamp;
+        room[len] = Near {
             dist: dist(points.at(p), points.at(*id)),
             id: *id,
         };
-        len = add(room, len, p, near);
+        len += 1;
     }
     len
 }

@@ -9,6 +9,7 @@ ghost use Rattle.ann_defs.specs.GreedySearch.{search_of};
 ghost use Rattle.beam_search.specs.Room.{after_search};
 ghost use Rattle.beam_search.specs.Measured.{AreMeasured};
 
+use crate::marks::next_stamp;
 use crate::scratch::Scratch;
 use crate::walk::walk_all;
 use bin_files::Points;
@@ -17,8 +18,8 @@ use graph_files::Rows;
 /// Searches the graph from the starts for what is near to the query. The scratch has the answer.
 ///
 /// This is GreedySearch (DiskANN, Algorithm 1) and SEARCH-LAYER (HNSW, Algorithm 2). `beam` is `L` in DiskANN and `ef`
-/// in HNSW. Distances are squared, and of two as near the smaller id comes first. No point is visited twice. It takes
-/// no memory and refuses nothing.
+/// in HNSW. Distances are squared, and of two as near the smaller id comes first. No point is visited twice, and no
+/// distance is taken twice. It takes no memory and refuses nothing.
 pub fn search<R: Rows>(
     points: &Points,
     graph: &R,
@@ -58,6 +59,7 @@ fn walk_graph<R: Rows>(
     requires beam { beam ≤ scratch.old.beam }
     ensures { scratch.new ≡ after_search scratch.old (search_of points.now.vectors (R.row_of graph.now) query.now beam starts.now) }
 {
+    let seen = next_stamp(&mut scratch.marks, scratch.last_stamp);
     let (found_len, visited_len) = walk_all(
         points,
         graph,
@@ -66,7 +68,11 @@ fn walk_graph<R: Rows>(
         beam as usize,
         &mut scratch.found,
         &mut scratch.visited,
+        &mut scratch.marks,
+        seen,
+        &mut scratch.todo,
     );
+    scratch.last_stamp = seen + 1;
     scratch.found_len = found_len;
     scratch.visited_len = visited_len;
 }

@@ -9,6 +9,9 @@
 mod gather;
 mod greedy;
 mod lists;
+mod marks;
+#[cfg(test)]
+mod plain;
 mod scratch;
 #[cfg(test)]
 mod tests;

@@ -13,7 +13,7 @@ use std::marker::Model;
 /// It serves a search where the points are as many as it was made for, and the search's beam is at most its own.
 /// After each call of this crate that is handed it, it still serves the same searches.
 ///
-/// It holds 16 bytes a point, 8 for each entry of the beam, and 1,024 more.
+/// It holds 20 bytes a point, 8 for each entry of the beam, and 1,536 more.
 #[derive(Drop)]
 pub struct Scratch {
     pub(crate) found: Vec<Near>,
@@ -22,10 +22,16 @@ pub struct Scratch {
     pub(crate) visited_len: usize,
     // What is lent. Nothing is known of its entries.
     pub(crate) room: Vec<Near>,
+    // One for each point. None is later than `last_stamp`, so a later one marks without clearing.
+    pub(crate) marks: Vec<u32>,
+    pub(crate) last_stamp: u32,
+    // Room for the ids of a row that a search has not seen.
+    pub(crate) todo: Vec<u32>,
 }
 
 impl Model for Scratch {
     ghost use Rattle.std.specs.Prelude.{◌≡◌, ◌+◌, ◌≤◌, length};
+    ghost use Rattle.beam_search.specs.Marks.{AreUpTo};
     ghost use Rattle.ann_defs.specs.GreedySearch.{walk_in};
     ghost use Rattle.beam_search.specs.Room.{Room};
 
@@ -33,7 +39,7 @@ impl Model for Scratch {
 
     ghost view = { λ s. record { count = length s.visited.items; beam = length s.found.items; last = walk_in s.found.items s.found_len s.visited.items s.visited_len } };
 
-    ghost invariant = { λ s. (s.found_len ≤ length s.found.items) × (s.visited_len ≤ length s.visited.items) × (length s.room.items ≡ length s.visited.items + 128) };
+    ghost invariant = { λ s. (s.found_len ≤ length s.found.items) × (s.visited_len ≤ length s.visited.items) × (length s.room.items ≡ length s.visited.items + 128) × (length s.marks.items ≡ length s.visited.items) × AreUpTo s.last_stamp s.marks.items × (length s.todo.items ≡ 128) };
 }
 
 impl Scratch {
@@ -49,12 +55,17 @@ impl Scratch {
         let found = vec![in alloc; none; beam as usize]?;
         let visited = vec![in alloc; none; n as usize]?;
         let room = vec![in alloc; none; n as usize + 128]?;
+        let marks = vec![in alloc; 0u32; n as usize]?;
+        let todo = vec![in alloc; 0u32; 128]?;
         Ok(Scratch {
             found,
             found_len: 0,
             visited,
             visited_len: 0,
             room,
+            marks,
+            last_stamp: 0,
+            todo,
         })
     }
 }

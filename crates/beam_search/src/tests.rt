@@ -4,6 +4,7 @@ ghost use Rattle.std.specs.List.{All};
 ghost use Rattle.ann_defs.specs.Graph.{IsGraph};
 ghost use Rattle.graph_files.specs.Flat.{row_at};
 
+use crate::plain::walk_all;
 use crate::{Scratch, candidates, found, room, search, visited};
 use ann_defs::Near;
 use ann_shelf::NoMemory;
@@ -62,6 +63,43 @@ fn the_nearest_are_found_along_the_line(rt: HostRuntime) -> Result<(), Fail> {
     assert_eq!(rt; found(&scratch), all.as_slice());
     let walk = [near(144, 0), near(4, 1), near(64, 2)];
     assert_eq!(rt; visited(&scratch), walk.as_slice());
+    Ok(())
+}
+
+// Whether a search after another in one scratch finds and visits what the plain one does.
+fn is_as_plain(alloc: Global, query: u8, beam: u32) -> Result<bool, NoMemory>
+    requires { (1 ≤ beam) × (beam ≤ 4) }
+{
+    let points = line(alloc)?;
+    let graph = rows(alloc)?;
+    let mut scratch = Scratch::new(alloc, 4, 4)?;
+    if points.count() == 4 && points.dim() == 1 {
+        search(&points, &graph, &[0], &[255 - query], 4, &mut scratch);
+        search(&points, &graph, &[0], &[query], beam, &mut scratch);
+        let mut list = [near(0, 0); 4];
+        let mut walk = [near(0, 0); 4];
+        let (len, count) = walk_all(
+            &points,
+            &graph,
+            &[0],
+            &[query],
+            beam as usize,
+            &mut list,
+            &mut walk,
+        );
+        let same_list = found(&scratch) == &list[..len];
+        return Ok(same_list && visited(&scratch) == &walk[..count]);
+    }
+    Ok(false)
+}
+
+#[test]
+fn a_search_is_as_the_plain_one(rt: HostRuntime) -> Result<(), Fail> {
+    for query in 0..40u8 {
+        for beam in 1..5u32 {
+            assert!(rt; is_as_plain(rt.alloc(), query, beam)?);
+        }
+    }
     Ok(())
 }
 

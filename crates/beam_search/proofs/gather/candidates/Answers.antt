@@ -7,6 +7,7 @@ use Rattle.ann_defs.specs.Distance.{point}
 use Rattle.ann_defs.specs.Nearness.{all_near, ids_of}
 use Rattle.beam_search.specs.Room.{Room}
 use Rattle.beam_search.specs.Gathered.{gathered, IsGathered}
+use Rattle.beam_search.specs.Marks.{AreUpTo}
 use Rattle.beam_search.proofs.Gathering.{is_gathered}
 use Rattle.beam_search.proofs.gather.candidates.Goals as goal
 
@@ -17,11 +18,23 @@ front_of n len written old e =
     let same : len - 0 ≡ len = omega arith in
     ap (λ (k : ℕ). take k (take n (written ++ drop (length written) old))) same ∙ ap (take len) all
 
+-- what was written over a list as long
+written_is : (n : ℕ) (written old : List ℕ) → length written ≡ n → take n (written ++ drop (length written) old) ≡ written
+written_is n written old e = take-append-le n written (drop (length written) old) (omega arith) ∙ take_all n written (omega arith)
+
 pub invariant_of-scratch-lent : goal.invariant_of-scratch-lent
 invariant_of-scratch-lent c = λ w.
     let room = c.scratch.inside.room in
     let lent = with_items_from (with_items room c.gather-len.new.room) 0 w in
-    (c.scratch.invariant.0, c.scratch.invariant.1, sym lent.ok.0 ∙ room.ok.0 ∙ c.scratch.invariant.2)
+    let long : length c.gather-len.new.marks ≡ c.scratch.inside.marks.len = c.gather-len.auto.marks ∙ c.deref_mut-3.ensures.len in
+    let marks = written_is c.scratch.inside.marks.len c.gather-len.new.marks (take c.scratch.inside.marks.len (c.next_stamp-stamp.new.marks ++ drop (length c.next_stamp-stamp.new.marks) c.scratch.inside.marks.items)) long in (
+      c.scratch.invariant.0,
+      c.scratch.invariant.1,
+      sym lent.ok.0 ∙ room.ok.0 ∙ c.scratch.invariant.2,
+      ap length marks ∙ long ∙ c.scratch.inside.marks.ok.0 ∙ c.scratch.invariant.3,
+      subst (AreUpTo c.next_stamp-stamp.result) (sym marks) c.gather-len.ensures.marks,
+      c.scratch.invariant.5,
+    )
 
 pub returns : goal.returns
 returns c =
@@ -29,7 +42,7 @@ returns c =
     let p = c.args.p in
     let extra = c.args.extra.now in
     let visited : take c.scratch.inside.visited_len c.deref.result.now ≡ c.args.scratch.now.last.visited = ap (take c.scratch.inside.visited_len) c.deref.ensures.value ∙ ap (λ (r : Room). r.last.visited) c.scratch.view_is in
-    let part : c.slice_mut.result.now ≡ take c.gather-len.result c.gather-len.new.room = c.slice_mut.ensures.value ∙ front_of c.scratch.inside.room.len c.gather-len.result c.gather-len.new.room c.scratch.inside.room.items (c.gather-len.auto.room ∙ c.deref_mut.ensures.len) in
+    let part : c.slice_mut.result.now ≡ take c.gather-len.result c.gather-len.new.room = c.slice_mut.ensures.value ∙ front_of c.scratch.inside.room.len c.gather-len.result c.gather-len.new.room c.scratch.inside.room.items (c.gather-len.auto.room ∙ c.deref_mut-2.ensures.len) in
     let list : c.slice_mut.result.now ≡ gathered p (c.args.scratch.now.last.visited ++ all_near points (point points p) extra) = part ∙ c.gather-len.ensures.list ∙ ap (λ (xs : List Near). gathered p (xs ++ all_near points (point points p) extra)) visited in (
       (refl, λ w. c.scratch.view_is),
       record {

@@ -1,7 +1,7 @@
-use Rattle.std.proofs.Common.{◌≡◌, drop, not}
-use Rattle.std.specs.List.{find}
-use Rattle.ann_defs.specs.GreedySearch.{is_in}
+use Rattle.std.proofs.Common.{◌≡◌}
+use Rattle.std.specs.List.{AllWithin}
+use Rattle.beam_search.specs.Marks.{mark_of}
 use Rattle.beam_search.proofs.lists.first_left.Given as goal
 
-abbrev pub invariant-loop-x : goal.invariant-loop-x
-invariant-loop-x l = find (λ x. not (is_in l.visited x)) (drop l.x-index l.found) ≡ find (λ x. not (is_in l.visited x)) l.found
+abbrev pub invariant-loop-i : goal.invariant-loop-i
+invariant-loop-i l = AllWithin (λ x. mark_of l.marks x.id ≡ l.visited) l.list l.from l.i

@@ -1,22 +1,28 @@
-use Rattle.std.proofs.Common.{◌≡◌, ◌∙◌, ap, ℕ, take, get_or, arith}
+use Rattle.std.proofs.Common.{◌≡◌, ◌≤◌, ◌∙◌, ap, subst, sym, min, ℕ, take, get_or, arith}
 use Rattle.ann_defs.specs.declared.near.Near.{Near}
 use Rattle.ann_defs.specs.Distance.{dist_of}
 use Rattle.ann_defs.specs.Ordered.{put}
 use Rattle.ann_defs.specs.Nearness.{near_cmp, near_of, all_near}
 use Rattle.beam_search.proofs.Putting.{offered_more, rises_now}
+use Rattle.beam_search.proofs.Settling.{front_left}
 use Rattle.beam_search.proofs.lists.offer_all.Goals as goal
 
-pub offer-count-requires-clause-rises : goal.offer-count-requires-clause-rises
-offer-count-requires-clause-rises c = rises_now c.args.limit _ (all_near c.args.points.now.vectors c.args.query.now (take c.loop-id.id-index c.args.ids.now)) _ c.requires.rises c.loop-id.invariant.offered
+pub offer-kept-requires-clause-rises : goal.offer-kept-requires-clause-rises
+offer-kept-requires-clause-rises c = rises_now c.args.limit _ (all_near c.args.points.now.vectors c.args.query.now (take c.loop-id.id-index c.args.ids.now)) _ c.requires.rises c.loop-id.invariant.offered
 
 pub loop-id-preserved : goal.loop-id-preserved
 loop-id-preserved c =
     let id = get_or c.args.ids.now c.loop-id.id-index 0 in
     let make : ℕ → Near = λ d. record { dist = d; id = id } in
     let near : make c.dist.result ≡ near_of c.args.points.now.vectors c.args.query.now id = ap make (c.dist.ensures.value ∙ ap (dist_of c.args.query.now) c.at.ensures.value) in
+    let last : c.min-first.result ≡ min c.loop-id.first c.offer-kept.result.1 = c.min-first.ensures in
     record {
       offered = offered_more (near_of c.args.points.now.vectors c.args.query.now) c.args.ids.now c.loop-id.id-index c.args.limit 0 _ _ _ (omega arith)
           c.loop-id.invariant.offered
-          (c.offer-count.ensures.list ∙ ap (λ x. take c.args.limit (put near_cmp (take c.loop-id.count c.loop-id.list) x)) near);
-      bound = c.offer-count.ensures.bound;
+          (c.offer-kept.ensures.list ∙ ap (λ x. take c.args.limit (put near_cmp (take c.loop-id.count c.loop-id.list) x)) near);
+      bound = c.offer-kept.ensures.bound;
+      grows = omega (arith, c.loop-id.invariant.grows, c.offer-kept.ensures.grows);
+      front = subst (λ n. take n c.offer-kept.new.list ≡ take n c.args.list.now) (sym last)
+          (front_left c.loop-id.first c.offer-kept.result.1 c.args.list.now c.loop-id.list c.offer-kept.new.list c.loop-id.invariant.front c.offer-kept.ensures.front);
+      first = let first : c.loop-id.first ≤ c.args.len = c.loop-id.invariant.first in omega arith;
     }

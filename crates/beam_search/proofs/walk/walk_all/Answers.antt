@@ -1,73 +1,121 @@
-use Rattle.std.proofs.Common.{◌≡◌, ◌+◌, ◌<◌, ◌∙◌, ap, sym, subst, ℕ, true, take, length, arith, Some, None, Option, not, List, []}
-use Rattle.std.specs.List.{find, fold}
-use Rattle.ann_defs.specs.Ordered.{put}
-use Rattle.std.proofs.lemmas.List.Elements.{All-weaker}
+use Rattle.std.proofs.Common.{◌≡◌, ◌+◌, ◌<◌, ◌∙◌, ap, sym, subst, ℕ, take, set, length, get_or, arith, length-set, []}
+use Rattle.std.specs.List.{All, fold}
+use Rattle.std.proofs.lemmas.List.{length-take-le, get_or-take}
 use Rattle.ann_defs.specs.declared.near.Near.{Near}
+use Rattle.ann_defs.specs.Ordered.{put}
 use Rattle.ann_defs.specs.Nearness.{near_cmp, all_near}
-use Rattle.ann_defs.specs.GreedySearch.{Walk, walk_in, next_of, start_of, is_in}
-use Rattle.ann_defs.proofs.SearchStates.{IsWalking, walking_none, walking_room, walking_more, walking_all, visited_more, next_held}
+use Rattle.ann_defs.specs.GreedySearch.{Walk, walk_in, start_of}
+use Rattle.ann_defs.proofs.SearchStates.{IsWalking, walking_none, walking_all}
+use Rattle.beam_search.specs.Marks.{AreVisited}
+use Rattle.beam_search.proofs.Cursor.{IsCursor, cursor_none, cursor_more, next_none, visited_none, visited_marked, visited_seen, up_to_first, up_to_marked, up_to_seen}
+use Rattle.beam_search.proofs.Stepping.{p_held, p_below, count_room, row_below, settled_p, visited_p, walking_next, ids_next}
 use Rattle.beam_search.proofs.walk.walk_all.Goals as goal
 
-pub loop-p-init : goal.loop-p-init
-loop-p-init g c =
+pub loop-next-init : goal.loop-next-init
+loop-next-init g c =
+    let points = c.args.points.now.vectors in
     let row = g.R.Rows.row_of c.args.graph.now in
-    let start = start_of c.args.points.now.vectors row c.args.query.now c.args.beam c.args.starts.now in
-    let same : walk_in c.offer_all-len.new.list c.offer_all-len.result c.args.visited.now 0 ≡ start = λ i. record { found = c.offer_all-len.ensures.list i; visited = [] } in
+    let held = g.R.Rows.held c.args.graph.now in
+    let start = start_of points row c.args.query.now c.args.beam c.args.starts.now in
+    let same : walk_in c.offer_unseen-kept.new.list c.offer_unseen-kept.result.0 c.args.visited.now 0 ≡ start = λ i. record { found = c.offer_unseen-kept.ensures.list i; visited = [] } in
     record {
-      walking = subst (λ (w : Walk). IsWalking c.args.points.now.vectors row c.args.query.now c.args.beam (g.R.Rows.held c.args.graph.now) start w 0) (sym same)
-          (walking_none c.args.points.now.vectors row c.args.query.now c.args.beam (g.R.Rows.held c.args.graph.now) c.requires.graph c.args.starts.now c.requires.starts);
-      found = c.offer_all-len.ensures.bound;
+      walking = subst (λ (w : Walk). IsWalking points row c.args.query.now c.args.beam held start w 0) (sym same)
+          (walking_none points row c.args.query.now c.args.beam held c.requires.graph c.args.starts.now c.requires.starts);
+      found = c.offer_unseen-kept.ensures.bound;
       visited = omega arith;
+      settled = c.offer_unseen-kept.ensures.settled;
+      marks = visited_none (length points) c.args.seen c.args.marks.now c.offer_unseen-kept.new.marks c.requires.some c.requires.later c.offer_unseen-kept.ensures.marks;
+      up_to = up_to_seen c.args.seen c.args.marks.now c.offer_unseen-kept.new.marks (up_to_first c.args.seen c.args.marks.now c.requires.later) c.offer_unseen-kept.ensures.marks;
+      cursor = cursor_none c.offer_unseen-kept.new.list c.offer_unseen-kept.result.0;
     }
 
--- what the loop takes next
-abbrev Next : (found : List Near) (len : ℕ) (visited : List Near) (count : ℕ) (r : Option Near) → Type 0
-Next found len visited count r = next_of (walk_in found len visited count) ≡ r
+pub bounds-marks-p : goal.bounds-marks-p
+bounds-marks-p g c =
+    let below = p_below c.args.points.now.vectors (g.R.Rows.row_of c.args.graph.now) c.args.query.now c.args.beam (g.R.Rows.held c.args.graph.now) c.requires.graph _ c.loop-next.found c.loop-next.len c.loop-next.visited c.loop-next.count c.loop-next.next c.loop-next.invariant.walking c.loop-next.invariant.cursor (omega arith) c.loop-next-test.true in
+    omega arith
 
-next_is : (found : List Near) (len : ℕ) (visited : List Near) (count : ℕ) (r q : Option Near) → r ≡ find (λ x. not (is_in (take count visited) x)) (take len found) → r ≡ q → Next found len visited count q
-next_is found len visited count r q e f = sym e ∙ f
+pub row-row-requires : goal.row-row-requires
+row-row-requires g c =
+    p_held c.args.points.now.vectors (g.R.Rows.row_of c.args.graph.now) c.args.query.now c.args.beam (g.R.Rows.held c.args.graph.now) c.requires.graph _ c.loop-next.found c.loop-next.len c.loop-next.visited c.loop-next.count c.loop-next.next c.loop-next.invariant.walking c.loop-next.invariant.cursor (omega arith) c.loop-next-test.true
 
-pub row-requires : goal.row-requires
-row-requires g c =
-    let next = next_is c.loop-p.found c.loop-p.len c.loop-p.visited c.loop-p.count c.first_left.result (Some c.in-Some.p) c.first_left.ensures c.in-Some.is in
-    next_held c.args.points.now.vectors (g.R.Rows.row_of c.args.graph.now) c.args.query.now c.args.beam (g.R.Rows.held c.args.graph.now) _ c.in-Some.p c.loop-p.invariant.walking.sound next
+pub offer_unseen-kept-requires-in-loop-next-clause-ids : goal.offer_unseen-kept-requires-in-loop-next-clause-ids
+offer_unseen-kept-requires-in-loop-next-clause-ids g c =
+    subst (λ ids. All (λ v. v < length c.args.points.now.vectors) ids) (sym c.row-row.ensures)
+    (row_below c.args.points.now.vectors (g.R.Rows.row_of c.args.graph.now) c.args.query.now c.args.beam (g.R.Rows.held c.args.graph.now) c.requires.graph _ c.loop-next.found c.loop-next.len c.loop-next.visited c.loop-next.count c.loop-next.next c.loop-next.invariant.walking c.loop-next.invariant.cursor (omega arith) c.loop-next-test.true)
 
-pub offer_all-len-requires-in-Some-clause-ids : goal.offer_all-len-requires-in-Some-clause-ids
-offer_all-len-requires-in-Some-clause-ids g c =
-    let next = next_is c.loop-p.found c.loop-p.len c.loop-p.visited c.loop-p.count c.first_left.result (Some c.in-Some.p) c.first_left.ensures c.in-Some.is in
-    let held = next_held c.args.points.now.vectors (g.R.Rows.row_of c.args.graph.now) c.args.query.now c.args.beam (g.R.Rows.held c.args.graph.now) _ c.in-Some.p c.loop-p.invariant.walking.sound next in
-    rw c.row.ensures (All-weaker (λ v. g.R.Rows.held c.args.graph.now v ≡ true) (λ v. v < length c.args.points.now.vectors) (λ v h. c.requires.graph.below v h) (g.R.Rows.row_of c.args.graph.now c.in-Some.p.id) (c.requires.graph.inside c.in-Some.p.id held))
+pub offer_unseen-kept-requires-in-loop-next-clause-settled : goal.offer_unseen-kept-requires-in-loop-next-clause-settled
+offer_unseen-kept-requires-in-loop-next-clause-settled g c =
+    settled_p c.args.points.now.vectors (g.R.Rows.row_of c.args.graph.now) c.args.query.now c.args.beam (g.R.Rows.held c.args.graph.now) c.requires.graph _ c.loop-next.found c.loop-next.len c.loop-next.visited c.loop-next.count c.loop-next.next c.loop-next.invariant.walking c.loop-next.invariant.cursor (omega arith) c.loop-next-test.true
+    c.args.seen c.loop-next.marks (omega arith) c.loop-next.invariant.found c.loop-next.invariant.settled
 
 pub bounds-visited-count : goal.bounds-visited-count
 bounds-visited-count g c =
-    let next = next_is c.loop-p.found c.loop-p.len c.loop-p.visited c.loop-p.count c.first_left.result (Some c.in-Some.p) c.first_left.ensures c.in-Some.is in
-    let room = walking_room c.args.points.now.vectors (g.R.Rows.row_of c.args.graph.now) c.args.query.now c.args.beam (g.R.Rows.held c.args.graph.now) c.requires.graph c.in-Some.p c.loop-p.invariant.walking next in
+    let below = count_room c.args.points.now.vectors (g.R.Rows.row_of c.args.graph.now) c.args.query.now c.args.beam (g.R.Rows.held c.args.graph.now) c.requires.graph _ c.loop-next.found c.loop-next.len c.loop-next.visited c.loop-next.count c.loop-next.next c.loop-next.invariant.walking c.loop-next.invariant.cursor (omega arith) c.loop-next-test.true in
     omega arith
 
-pub loop-p-smaller : goal.loop-p-smaller
-loop-p-smaller g c =
-    let next = next_is c.loop-p.found c.loop-p.len c.loop-p.visited c.loop-p.count c.first_left.result (Some c.in-Some.p) c.first_left.ensures c.in-Some.is in
-    let room = walking_room c.args.points.now.vectors (g.R.Rows.row_of c.args.graph.now) c.args.query.now c.args.beam (g.R.Rows.held c.args.graph.now) c.requires.graph c.in-Some.p c.loop-p.invariant.walking next in
+pub first_left-next-requires-clause-ids : goal.first_left-next-requires-clause-ids
+first_left-next-requires-clause-ids g c k d lt =
+    let points = c.args.points.now.vectors in
+    let row = g.R.Rows.row_of c.args.graph.now in
+    let p = get_or c.loop-next.found c.loop-next.next (record { dist = 0; id = 0 }) in
+    let found' = c.offer_unseen-kept-in-loop-next.new.list in
+    let len' = c.offer_unseen-kept-in-loop-next.result.0 in
+    let long : length (take len' found') ≡ len' = length-take-le len' found' (omega arith) in
+    let offered : take len' found' ≡ take c.args.beam (fold (put near_cmp) (take c.loop-next.len c.loop-next.found) (all_near points c.args.query.now (row p.id))) =
+    c.offer_unseen-kept-in-loop-next.ensures.list ∙ ap (λ ids. take c.args.beam (fold (put near_cmp) (take c.loop-next.len c.loop-next.found) (all_near points c.args.query.now ids))) c.row-row.ensures in
+    let below = ids_next points row c.args.query.now c.args.beam (g.R.Rows.held c.args.graph.now) c.requires.graph _ c.loop-next.found c.loop-next.len c.loop-next.visited c.loop-next.count c.loop-next.next c.loop-next.invariant.walking c.loop-next.invariant.cursor (omega arith) c.loop-next-test.true
+    found' len' offered (omega arith) (omega arith) k d (omega arith) in
+    let marks_long : length c.offer_unseen-kept-in-loop-next.new.marks ≡ length points = omega (arith, length-set {A = ℕ}) in
+    subst (λ m. (get_or (take len' found') k d).id < m) (sym marks_long)
+    (subst (λ (x : Near). x.id < length points) (sym (get_or-take len' found' k d (omega arith))) below)
+
+pub loop-next-smaller : goal.loop-next-smaller
+loop-next-smaller g c =
+    let below = count_room c.args.points.now.vectors (g.R.Rows.row_of c.args.graph.now) c.args.query.now c.args.beam (g.R.Rows.held c.args.graph.now) c.requires.graph _ c.loop-next.found c.loop-next.len c.loop-next.visited c.loop-next.count c.loop-next.next c.loop-next.invariant.walking c.loop-next.invariant.cursor (omega arith) c.loop-next-test.true in
     omega arith
 
-pub loop-p-preserved : goal.loop-p-preserved
-loop-p-preserved g c =
+pub loop-next-preserved : goal.loop-next-preserved
+loop-next-preserved g c =
+    let points = c.args.points.now.vectors in
     let row = g.R.Rows.row_of c.args.graph.now in
     let held = g.R.Rows.held c.args.graph.now in
-    let next = next_is c.loop-p.found c.loop-p.len c.loop-p.visited c.loop-p.count c.first_left.result (Some c.in-Some.p) c.first_left.ensures c.in-Some.is in
-    let room = walking_room c.args.points.now.vectors row c.args.query.now c.args.beam held c.requires.graph c.in-Some.p c.loop-p.invariant.walking next in
-    let start = start_of c.args.points.now.vectors row c.args.query.now c.args.beam c.args.starts.now in
-    let offered : take c.offer_all-len-in-Some.result c.offer_all-len-in-Some.new.list ≡ take c.args.beam (fold (put near_cmp) (take c.loop-p.len c.loop-p.found) (all_near c.args.points.now.vectors c.args.query.now (row c.in-Some.p.id))) =
-    c.offer_all-len-in-Some.ensures.list ∙ ap (λ ids. take c.args.beam (fold (put near_cmp) (take c.loop-p.len c.loop-p.found) (all_near c.args.points.now.vectors c.args.query.now ids))) c.row.ensures in
-    let same = visited_more c.args.points.now.vectors row c.args.query.now c.args.beam c.loop-p.found c.loop-p.len c.loop-p.visited c.loop-p.count _ _ c.in-Some.p c.loop-p.invariant.walking.sound.rises (omega arith) offered in
+    let query = c.args.query.now in
+    let beam = c.args.beam in
+    let seen = c.args.seen in
+    let found = c.loop-next.found in
+    let visited = c.loop-next.visited in
+    let count = c.loop-next.count in
+    let next = c.loop-next.next in
+    let p = get_or found next (record { dist = 0; id = 0 }) in
+    let found' = c.offer_unseen-kept-in-loop-next.new.list in
+    let len' = c.offer_unseen-kept-in-loop-next.result.0 in
+    let first = c.offer_unseen-kept-in-loop-next.result.1 in
+    let marked = set c.loop-next.marks p.id (seen + 1) in
+    let marks' = c.offer_unseen-kept-in-loop-next.new.marks in
+    let only = c.offer_unseen-kept-in-loop-next.ensures.marks in
+    let offered : take len' found' ≡ take beam (fold (put near_cmp) (take c.loop-next.len found) (all_near points query (row p.id))) =
+    c.offer_unseen-kept-in-loop-next.ensures.list ∙ ap (λ ids. take beam (fold (put near_cmp) (take c.loop-next.len found) (all_near points query ids))) c.row-row.ensures in
+    let below = p_below points row query beam held c.requires.graph _ found c.loop-next.len visited count next c.loop-next.invariant.walking c.loop-next.invariant.cursor (omega arith) c.loop-next-test.true in
+    let room = count_room points row query beam held c.requires.graph _ found c.loop-next.len visited count next c.loop-next.invariant.walking c.loop-next.invariant.cursor (omega arith) c.loop-next-test.true in
+    let more = visited_p points row query beam held c.requires.graph _ found c.loop-next.len visited count next c.loop-next.invariant.walking c.loop-next.invariant.cursor (omega arith) c.loop-next-test.true (omega arith) in
+    let visited_now = visited_seen (length points) seen _ marked marks' only (visited_marked (length points) seen c.loop-next.marks p (omega arith) below (take count visited) c.loop-next.invariant.marks) in
+    let ids = ids_next points row query beam held c.requires.graph _ found c.loop-next.len visited count next c.loop-next.invariant.walking c.loop-next.invariant.cursor (omega arith) c.loop-next-test.true found' len' offered (omega arith) (omega arith) in
+    let long : length (take len' found') ≡ len' = length-take-le len' found' (omega arith) in
+    let range = c.first_left-next.ensures.range in
     record {
-      walking = subst (λ (w : Walk). IsWalking c.args.points.now.vectors row c.args.query.now c.args.beam held start w (c.loop-p.count + 1)) (sym same)
-          (walking_more c.args.points.now.vectors row c.args.query.now c.args.beam held c.requires.graph c.in-Some.p c.loop-p.invariant.walking next);
-      found = c.offer_all-len-in-Some.ensures.bound;
+      walking = walking_next points row query beam held c.requires.graph _ found c.loop-next.len visited count next c.loop-next.invariant.walking c.loop-next.invariant.cursor (omega arith) c.loop-next-test.true found' len' offered (omega arith) (omega arith);
+      found = c.offer_unseen-kept-in-loop-next.ensures.bound;
       visited = omega arith;
+      settled = c.offer_unseen-kept-in-loop-next.ensures.settled;
+      marks = subst (λ xs. AreVisited (length points) (seen + 1) xs marks') (sym more) visited_now;
+      up_to = up_to_seen seen marked marks' (up_to_marked (length points) seen c.loop-next.marks p (omega arith) below c.loop-next.invariant.up_to) only;
+      cursor = subst (λ xs. IsCursor found' len' xs c.first_left-next.result) (sym more)
+          (cursor_more (length points) (seen + 1) found found' c.loop-next.len len' (take count visited) next first c.min.result c.first_left-next.result marks'
+          c.loop-next.invariant.cursor c.loop-next-test.true c.offer_unseen-kept-in-loop-next.ensures.front c.min.ensures visited_now ids (omega arith) (omega arith)
+          (omega (arith, range.1)) c.first_left-next.ensures.before (λ less. c.first_left-next.ensures.here (omega arith)));
     }
 
 pub returns-clause-walk : goal.returns-clause-walk
 returns-clause-walk g c =
-    let next = next_is c.loop-p.found c.loop-p.len c.loop-p.visited c.loop-p.count c.first_left.result None c.first_left.ensures c.in_default.is in
-    walking_all c.args.points.now.vectors (g.R.Rows.row_of c.args.graph.now) c.args.query.now c.args.beam (g.R.Rows.held c.args.graph.now) c.requires.graph c.loop-p.invariant.walking next
+    let none = next_none c.loop-next.found c.loop-next.len c.loop-next.visited c.loop-next.count c.loop-next.next c.loop-next.invariant.cursor (omega arith) (omega arith) in
+    walking_all c.args.points.now.vectors (g.R.Rows.row_of c.args.graph.now) c.args.query.now c.args.beam (g.R.Rows.held c.args.graph.now) c.requires.graph c.loop-next.invariant.walking none
