@@ -19,7 +19,8 @@ use robust_prune::prune;
 /// Where row and sources together are at most `degree` ids, it is the row as it stands, followed by the sources that
 /// aren't in it, in their order. Else all of them are pruned for the target (DiskANN, Algorithm 2, as in Algorithm 3,
 /// line 8), nearest first. `room` holds the candidates with their squared distances meanwhile; what it and the rest of
-/// `out` hold afterwards is not said. It takes no memory and refuses nothing.
+/// `out` hold afterwards is not said. It takes no memory and refuses nothing, and where row and sources are short
+/// enough, it takes no distance.
 ///
 /// The answer is the length of the row, which stands at the front of `out`.
 pub fn merged_row<R: Rows>(
@@ -47,6 +48,9 @@ pub fn merged_row<R: Rows>(
     ensures bound { result ≤ degree }
 {
     let row = rows.row(target);
+    if row.len() + sources.len() <= degree as usize {
+        return join_row(row, sources, out);
+    }
     let from = lay_row(points, target, row, room);
     let len = lay_sources(points, target, row, sources, room, from);
     if len <= degree as usize {
@@ -55,6 +59,47 @@ pub fn merged_row<R: Rows>(
     } else {
         prune(points, target, &mut room[..len], alpha, degree, out)
     }
+}
+
+// Writes the row and the sources that aren't in it to the front of `out`. The answer is how many ids that is.
+fn join_row(row: &[u32], sources: &[Pair], out: &mut [u32]) -> usize
+    requires { length row.now + length sources.now ≤ length out.old }
+    ensures list { take result out.new ≡ row.now ++ filter (λ s. not (has row.now s)) (sources_in sources.now) }
+    ensures bound { result ≤ length row.now + length sources.now }
+{
+    let from = copy_row(row, out);
+    join_sources(row, sources, out, from)
+}
+
+// Copies the row to the front of `out`. The answer is its length.
+fn copy_row(row: &[u32], out: &mut [u32]) -> usize
+    requires { length row.now ≤ length out.old }
+    ensures list { take result out.new ≡ row.now }
+    ensures len { result ≡ length row.now }
+{
+    let mut len = 0;
+    for id in row {
+        out[len] = *id;
+        len += 1;
+    }
+    len
+}
+
+// Writes, after the first `from`, the sources that aren't in the row. The answer is how many ids there are then.
+fn join_sources(row: &[u32], sources: &[Pair], out: &mut [u32], from: usize) -> usize
+    requires { from + length sources.now ≤ length out.old }
+    ensures list { take result out.new ≡ take from out.old ++ filter (λ s. not (has row.now s)) (sources_in sources.now) }
+    ensures bound { result ≤ from + length sources.now }
+{
+    let mut len = from;
+    for pair in sources {
+        let id = pair.source;
+        if !has_id(row, id) {
+            out[len] = id;
+            len += 1;
+        }
+    }
+    len
 }
 
 // An id with its squared distance to the target.

@@ -1,0 +1,8 @@
+use Rattle.std.proofs.Common.{◌≡◌, take}
+use Rattle.back_edges.proofs.merge.copy_row.Given as goal
+
+abbrev pub invariant-loop-id : goal.invariant-loop-id
+invariant-loop-id l = record {
+  list : take l.len l.out ≡ take l.id-index l.row;
+  count : l.len ≡ l.id-index;
+}

@@ -1,0 +1,12 @@
+use Rattle.std.proofs.Common.{◌≡◌, ◌≤◌, ◌+◌, ◌++◌, take, not}
+use Rattle.std.specs.List.{filter}
+use Rattle.ann_defs.specs.Graph.{has}
+use Rattle.back_edges.specs.Sources.{sources_in}
+use Rattle.back_edges.proofs.merge.join_sources.Given as goal
+
+abbrev pub invariant-loop-pair : goal.invariant-loop-pair
+invariant-loop-pair l = record {
+  list : take l.len l.out ≡ take l.from l.fn.out ++ filter (λ s. not (has l.row s)) (sources_in (take l.pair-index l.sources));
+  least : l.from ≤ l.len;
+  bound : l.len ≤ l.from + l.pair-index;
+}
