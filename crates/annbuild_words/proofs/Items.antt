@@ -1,6 +1,6 @@
 -- The items of words, place by place.
-use Rattle.std.proofs.Common.{◌≡◌, ◌≢◌, ℕ, zero, suc, ◌+◌, ◌-◌, ◌<◌, ◌≤◌, Bool, true, false, ◌&&◌, List, [], ◌∷◌, map, length, get_or, drop, Option, Some, None, refl, ap, sym, ◌∙◌, arith, subst, add-one, String, string_bytes}
-use Rattle.std.proofs.lemmas.List.{drop-map, get_or-map, at_drop_more, at_drop_all, length-map, get_or_read}
+use Rattle.std.proofs.Common.{◌≡◌, ◌≢◌, ℕ, zero, suc, ◌+◌, ◌-◌, ◌<◌, ◌≤◌, Bool, true, false, ◌&&◌, List, [], ◌∷◌, length, get_or, drop, refl, ap, sym, ◌∙◌, arith, add-one, String, string_bytes}
+use Rattle.std.proofs.lemmas.List.{drop-map, get_or-map, at_drop_more, at_drop_all, length-map}
 use Rattle.std.specs.List.{list_all}
 use Rattle.std.specs.declared.alloc.Global.{Global}
 use Rattle.annbuild_words.specs.Words.{Item, Wrong, item, items, items_after, is_bare, is_taken}

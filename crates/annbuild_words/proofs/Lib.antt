@@ -5,3 +5,6 @@ pub mod Picked
 pub mod Pairs
 pub mod Values
 pub mod Ranges
+pub mod ReadBack
+pub mod Nested
+pub mod ByClap

@@ -1,5 +1,5 @@
 -- The place of what a function gives among all that it gives of the items.
-use Rattle.std.proofs.Common.{◌≡◌, ◌≢◌, ℕ, zero, suc, ◌+◌, ◌-◌, ◌<◌, ◌≤◌, List, [], ◌∷◌, length, get_or, drop, Option, Some, None, refl, ap, sym, ◌∙◌, arith, String}
+use Rattle.std.proofs.Common.{◌≡◌, ℕ, ◌≤◌, List, length, drop, Option, None, sym, ◌∙◌, String}
 use Rattle.std.specs.List.{slice_get, filter_map}
 use Rattle.std.specs.declared.alloc.Global.{Global}
 use Rattle.annbuild_words.specs.Words.{Item, items}

@@ -1,5 +1,5 @@
 -- Settings that no check finds out of range are in range.
-use Rattle.std.proofs.Common.{◌≡◌, ℕ, zero, suc, ◌+◌, ◌<◌, ◌≤◌, Bool, true, false, cond, ◌&&◌, leb, min, List, [], ◌∷◌, length, get_or, Option, Some, None, refl, ap, sym, ◌∙◌, arith, subst, lit<, IfSome}
+use Rattle.std.proofs.Common.{◌≡◌, ℕ, zero, suc, ◌<◌, ◌≤◌, Bool, true, false, cond, ◌&&◌, leb, min, List, [], ◌∷◌, length, get_or, Option, Some, None, refl, sym, arith, subst, lit<, IfSome}
 use Rattle.std.proofs.lemmas.Bool.{leb-true}
 use Rattle.std.specs.List.{slice_get, filter_map, cons_option}
 use Rattle.std.specs.Option.{option_or, unwrap_or, option_map}
@@ -14,7 +14,7 @@ use Rattle.annbuild_words.specs.declared.value.Value.TheVariants.{ByRule, Number
 use Rattle.annbuild_words.specs.declared.value.OutOfRange.{OutOfRange}
 use Rattle.annbuild_words.specs.Numbers.{number, fraction}
 use Rattle.annbuild_words.specs.Words.{values_for}
-use Rattle.annbuild_words.specs.Options.{option_form, option_name, build_table, query_table, value_in, value_or_default, setting, number_or, outside, outside_form, outside_option, first_outside}
+use Rattle.annbuild_words.specs.Options.{option_name, build_table, query_table, value_in, value_or_default, setting, number_or, outside, outside_form, outside_option, first_outside}
 use Rattle.annbuild_words.specs.Asked.{AreInRange, AreQueriesInRange, build_options, query_options, numerator, denominator, some_number}
 
 both_none : (o : Option OutOfRange) (rest : List OutOfRange) → None ≡ slice_get (cons_option o rest) 0 → (o ≡ None) × (None ≡ slice_get rest 0)

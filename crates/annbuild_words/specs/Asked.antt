@@ -1,5 +1,5 @@
 -- What words ask for.
-use Rattle.std.specs.Prelude.{ℕ, ◌≤◌, Bool, cond, min, IfSome, List, [], ◌∷◌, Option, Some, None, codes}
+use Rattle.std.specs.Prelude.{ℕ, ◌≤◌, cond, min, IfSome, List, [], ◌∷◌, Option, Some, None, codes, string_bytes}
 use Rattle.std.specs.Str.{bytes_eq}
 use Rattle.ann_defs.specs.declared.kinds.OrderKind.{OrderKind}
 use Rattle.ann_defs.specs.declared.kinds.OrderKind.TheVariants.{Seeded}
@@ -7,11 +7,13 @@ use Rattle.ann_defs.specs.declared.kinds.StartKind.{StartKind}
 use Rattle.ann_defs.specs.declared.kinds.StartKind.TheVariants.{Medoid}
 use Rattle.annbuild_words.specs.declared.fault.SettingName.{SettingName}
 use Rattle.annbuild_words.specs.declared.request.PoolKind.{PoolKind}
-use Rattle.annbuild_words.specs.declared.request.PoolKind.TheVariants.{Rayon}
+use Rattle.annbuild_words.specs.declared.request.PoolKind.TheVariants.{Steal}
 use Rattle.annbuild_words.specs.declared.request.BuildOptions.{BuildOptions}
 use Rattle.annbuild_words.specs.declared.request.QueryOptions.{QueryOptions}
 use Rattle.annbuild_words.specs.declared.request.Request.{Request}
 use Rattle.annbuild_words.specs.declared.request.Request.TheVariants.{Build, Query}
+use Rattle.annbuild_words.specs.declared.owned.Parsed.{Parsed}
+use Rattle.annbuild_words.specs.declared.owned.Parsed.TheVariants as parsed
 use Rattle.annbuild_words.specs.declared.request.Asked.{Asked}
 use Rattle.annbuild_words.specs.declared.request.Asked.TheVariants.{Nothing, Outside, For}
 use Rattle.annbuild_words.specs.declared.table.OptionName.TheVariants as option_names
@@ -33,11 +35,17 @@ pub data Meaning : Type 0 where
   Outside' : (name : SettingName) (value least greatest : ℕ) → Meaning
   Means : Command → Meaning
 
--- what an answer stands for
+-- the command of a request
 abbrev pub command_of : Request → Command
 command_of (Build r) = Builds r.base.now r.index.now r.options
 command_of (Query r) = Queries r.base.now r.index.now r.queries.now r.options
 
+-- and of one with file names of its own
+abbrev pub parsed_command : Parsed → Command
+parsed_command (parsed.Build r) = Builds (string_bytes r.base) (string_bytes r.index) r.options
+parsed_command (parsed.Query r) = Queries (string_bytes r.base) (string_bytes r.index) (string_bytes r.queries) r.options
+
+-- what an answer stands for
 abbrev pub seen : Asked → Meaning
 seen Nothing = Nothing'
 seen (Outside name value least greatest) = Outside' name value least greatest
@@ -86,7 +94,7 @@ some_number value = None
 
 abbrev pub pool_of : Value → PoolKind
 pool_of (PoolIs kind) = kind
-pool_of value = Rayon
+pool_of value = Steal
 
 abbrev pub order_of : Value → OrderKind
 order_of (OrderIs kind) = kind

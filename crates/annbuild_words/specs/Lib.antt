@@ -5,3 +5,5 @@ pub mod Options
 pub mod Parts
 pub mod Asked
 pub mod Lines
+pub mod Canonical
+pub mod Program

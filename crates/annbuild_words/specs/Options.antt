@@ -1,5 +1,5 @@
 -- The option table, and the values that words give to its settings.
-use Rattle.std.specs.Prelude.{ℕ, ◌^◌, nat_le, Bool, true, false, ◌&&◌, min, if◌then◌else◌, List, [], ◌∷◌, Option, Some, None, is_some, codes, slice_get}
+use Rattle.std.specs.Prelude.{ℕ, nat_le, Bool, true, false, ◌&&◌, if◌then◌else◌, List, [], ◌∷◌, Option, Some, None, is_some, codes, slice_get, drop}
 use Rattle.std.specs.List.{filter_map, list_all, list_any}
 use Rattle.std.specs.Option.{unwrap_or, option_or, option_map}
 use Rattle.std.specs.Str.{bytes_eq}
@@ -10,7 +10,7 @@ use Rattle.ann_defs.specs.declared.kinds.StartKind.TheVariants.{First, Medoid}
 use Rattle.annbuild_words.specs.declared.fault.SettingName.{SettingName}
 use Rattle.annbuild_words.specs.declared.fault.SettingName.TheVariants as setting_names
 use Rattle.annbuild_words.specs.declared.request.PoolKind.{PoolKind}
-use Rattle.annbuild_words.specs.declared.request.PoolKind.TheVariants.{Serial, Rayon}
+use Rattle.annbuild_words.specs.declared.request.PoolKind.TheVariants.{Serial, Rayon, Steal}
 use Rattle.annbuild_words.specs.declared.table.OptionName.{OptionName}
 use Rattle.annbuild_words.specs.declared.table.OptionName.TheVariants.{Workers, Pool, Seed, Order, Start, Degree, Beam, Alpha, Cap, Search, K}
 use Rattle.annbuild_words.specs.declared.table.Range.{Range}
@@ -37,9 +37,13 @@ option_name Cap = codes "--cap"
 option_name Search = codes "--search"
 option_name K = codes "--k"
 
+-- the same without the dashes
+abbrev pub long_name : OptionName → List ℕ
+long_name option = drop 2 (option_name option)
+
 abbrev pub option_form : OptionName → Form
 option_form Workers = OfNumber (Some 4) (Within setting_names.Workers 1 64)
-option_form Pool = OfPool Rayon
+option_form Pool = OfPool Steal
 option_form Seed = OfNumber (Some 0) Every
 option_form Order = OfOrder Seeded
 option_form Start = OfStart Medoid
@@ -68,7 +72,7 @@ default_value (OfStart kind) = StartIs kind
 
 -- the choices
 abbrev pub pool_in : List ℕ → Option PoolKind
-pool_in text = if bytes_eq text (codes "serial") then Some Serial else (if bytes_eq text (codes "rayon") then Some Rayon else None)
+pool_in text = if bytes_eq text (codes "serial") then Some Serial else (if bytes_eq text (codes "rayon") then Some Rayon else (if bytes_eq text (codes "steal") then Some Steal else None))
 
 abbrev pub order_in : List ℕ → Option OrderKind
 order_in text = if bytes_eq text (codes "file") then Some File else (if bytes_eq text (codes "seeded") then Some Seeded else None)

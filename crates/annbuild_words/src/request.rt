@@ -10,6 +10,8 @@ pub enum PoolKind {
     Serial,
     /// `rayon`, with one fixed share of the tasks for each worker.
     Rayon,
+    /// Workers that claim tasks and steal them from each other.
+    Steal,
 }
 
 /// The settings of a Vamana build.

@@ -1,6 +1,6 @@
 //! The option table: each option's name, the kind of its value, its default and its range.
 ghost use Rattle.std.specs.Prelude.{◌≡◌};
-ghost use Rattle.annbuild_words.specs.Options.{option_name, option_form};
+ghost use Rattle.annbuild_words.specs.Options.{option_name, long_name, option_form};
 
 use crate::{PoolKind, SettingName};
 use ann_defs::{OrderKind, StartKind};
@@ -53,6 +53,8 @@ pub enum Form {
 #[derive(Clone, Copy)]
 pub struct Row {
     pub name: &'static str,
+    /// The name without its dashes.
+    pub long: &'static str,
     pub form: Form,
 }
 
@@ -94,21 +96,25 @@ fn number(default: Option<u64>, setting: SettingName, least: u64, greatest: u64)
 /// The table.
 pub fn row_of(option: OptionName) -> Row
     ensures name { result.name.now ≡ option_name option }
+    ensures long { result.long.now ≡ long_name option }
     ensures form { result.form ≡ option_form option }
 {
     match option {
         OptionName::Workers => Row {
             name: "--workers",
+            long: "workers",
             form: number(Some(4), SettingName::Workers, 1, 64),
         },
         OptionName::Pool => Row {
             name: "--pool",
+            long: "pool",
             form: Form::OfPool {
-                default: PoolKind::Rayon,
+                default: PoolKind::Steal,
             },
         },
         OptionName::Seed => Row {
             name: "--seed",
+            long: "seed",
             form: Form::OfNumber {
                 default: Some(0),
                 range: Range::Every,
@@ -116,26 +122,31 @@ pub fn row_of(option: OptionName) -> Row
         },
         OptionName::Order => Row {
             name: "--order",
+            long: "order",
             form: Form::OfOrder {
                 default: OrderKind::Seeded,
             },
         },
         OptionName::Start => Row {
             name: "--start",
+            long: "start",
             form: Form::OfStart {
                 default: StartKind::Medoid,
             },
         },
         OptionName::Degree => Row {
             name: "--degree",
+            long: "degree",
             form: number(Some(64), SettingName::Degree, 1, 128),
         },
         OptionName::Beam => Row {
             name: "--beam",
+            long: "beam",
             form: number(Some(128), SettingName::Beam, 1, 1024),
         },
         OptionName::Alpha => Row {
             name: "--alpha",
+            long: "alpha",
             form: Form::OfFraction {
                 num: 12,
                 den: 10,
@@ -144,14 +155,17 @@ pub fn row_of(option: OptionName) -> Row
         },
         OptionName::Cap => Row {
             name: "--cap",
+            long: "cap",
             form: number(None, SettingName::Cap, 1, 4_194_304),
         },
         OptionName::Search => Row {
             name: "--search",
+            long: "search",
             form: number(Some(64), SettingName::Search, 1, 1024),
         },
         OptionName::K => Row {
             name: "--k",
+            long: "k",
             form: Form::OfNumber {
                 default: None,
                 range: Range::ToSearch {

@@ -1,7 +1,8 @@
 //! The values of settings, and their ranges.
 ghost use Rattle.std.specs.Prelude.{◌≡◌};
+ghost use Rattle.std.specs.Option.{option_copied};
 ghost use Rattle.annbuild_words.specs.Words.{values_for};
-ghost use Rattle.annbuild_words.specs.Options.{option_form, option_name, default_value, pool_in, order_in, start_in, value_in, is_value, setting, number_or, outside, outside_range, outside_form, outside_option};
+ghost use Rattle.annbuild_words.specs.Options.{value_or_default, option_form, option_name, default_value, pool_in, order_in, start_in, value_in, is_value, setting, number_or, outside, outside_range, outside_form, outside_option};
 ghost use Rattle.annbuild_words.specs.Parts.{texts};
 
 use crate::given::given_at;
@@ -57,6 +58,9 @@ fn read_pool(text: &str) -> Option<PoolKind>
     }
     if text == "rayon" {
         return Some(PoolKind::Rayon);
+    }
+    if text == "steal" {
+        return Some(PoolKind::Steal);
     }
     None
 }
@@ -130,16 +134,23 @@ pub fn is_set_well(words: &[String], option: OptionName) -> bool
     read_value(row.form, text).is_some()
 }
 
+/// The value that a text writes, if there is one and it does, or the default.
+pub fn or_default(form: Form, text: Option<&str>) -> Value
+    ensures { result ≡ value_or_default form (option_copied text.entry) }
+{
+    match text {
+        Some(text) => read_value(form, text).unwrap_or(default_of(form)),
+        None => default_of(form),
+    }
+}
+
 /// The value of a setting.
 #[tactic(auto, unfolding(crate::specs::Options::setting))]
 pub fn value_of(words: &[String], option: OptionName) -> Value
     ensures { result ≡ setting (texts words.now) option }
 {
     let row = row_of(option);
-    let Some(text) = given_at(words, row.name, 0) else {
-        return default_of(row.form);
-    };
-    read_value(row.form, text).unwrap_or(default_of(row.form))
+    or_default(row.form, given_at(words, row.name, 0))
 }
 
 /// The number of a value, or another where it has none.

@@ -7,7 +7,7 @@ ghost use Rattle.annbuild_words.specs.Asked.{seen, request_of, build_meaning, qu
 ghost use Rattle.annbuild_words.specs.Parts.{texts};
 
 use crate::given::{may_all_stand, three_files, two_files};
-use crate::settings::{settings_of_build, settings_of_query};
+use crate::settings::{Words, settings_of_build, settings_of_query};
 use crate::table::{BUILD, OptionName, QUERY};
 use crate::value::{OutOfRange, is_set_well, option_outside};
 use crate::{Asked, BuildRequest, QueryRequest, Request};
@@ -58,7 +58,7 @@ fn build_asked(words: &[String]) -> Asked<'_>
         None => Asked::For(Request::Build(BuildRequest {
             base,
             index,
-            options: settings_of_build(words),
+            options: settings_of_build(&Words(words)),
         })),
     }
 }
@@ -94,7 +94,7 @@ fn query_asked(words: &[String]) -> Asked<'_>
             base,
             index,
             queries,
-            options: settings_of_query(words),
+            options: settings_of_query(&Words(words)),
         })),
     }
 }

@@ -1,4 +1,4 @@
-use Rattle.std.proofs.Common.{◌≡◌, ◌≤◌, Bool, false, length, arith, sym, ◌∙◌}
+use Rattle.std.proofs.Common.{◌≤◌, Bool, length, arith, sym, ◌∙◌}
 use Rattle.std.specs.List.{list_all}
 use Rattle.annbuild_words.specs.Parts.{texts, item_of}
 use Rattle.annbuild_words.specs.Words.{items}

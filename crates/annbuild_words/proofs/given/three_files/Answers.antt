@@ -1,4 +1,4 @@
-use Rattle.std.proofs.Common.{ℕ, List, lit<, sym, ◌∙◌}
+use Rattle.std.proofs.Common.{lit<, sym, ◌∙◌}
 use Rattle.annbuild_words.specs.Parts.{texts}
 use Rattle.annbuild_words.specs.Words.{files_of}
 use Rattle.annbuild_words.proofs.Pairs.{absent, same_variant, three_none, three_more, three_are}

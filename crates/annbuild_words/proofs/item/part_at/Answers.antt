@@ -1,4 +1,4 @@
-use Rattle.std.proofs.Common.{◌+◌, ap, arith, length, refl, ◌∙◌, ◌≤◌}
+use Rattle.std.proofs.Common.{◌+◌, ap, arith, length, ◌∙◌, ◌≤◌}
 use Rattle.std.proofs.lemmas.Slice.{between_to_end}
 use Rattle.std.specs.List.{between}
 use Rattle.annbuild_words.specs.Words.{item}

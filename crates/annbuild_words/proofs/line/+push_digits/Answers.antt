@@ -1,4 +1,4 @@
-use Rattle.std.proofs.Common.{◌≡◌, ◌∙◌, ◌+◌, ◌<◌, ◌≤◌, ◌/◌, ap, arith, ◌++◌, sym, length, decimal, lit<}
+use Rattle.std.proofs.Common.{◌∙◌, ◌+◌, ◌<◌, ap, arith, ◌++◌, sym, lit<}
 use Rattle.std.proofs.lemmas.Fmt.{decimal_digit}
 use Rattle.arrayvec.specs.ArrayVec.{array_vec_len}
 use Rattle.annbuild_words.proofs.Decimals.{one_digit, more_digits, added_digits}

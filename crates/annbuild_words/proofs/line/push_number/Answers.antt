@@ -1,4 +1,4 @@
-use Rattle.std.proofs.Common.{◌+◌, ◌≤◌, arith}
+use Rattle.std.proofs.Common.{arith}
 use Rattle.annbuild_words.proofs.Decimals.{few_digits}
 use Rattle.annbuild_words.proofs.line.push_number.Goals as goal
 

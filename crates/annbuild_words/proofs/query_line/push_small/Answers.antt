@@ -1,4 +1,4 @@
-use Rattle.std.proofs.Common.{◌+◌, ◌≤◌, arith}
+use Rattle.std.proofs.Common.{arith}
 use Rattle.annbuild_words.proofs.Decimals.{few_digits_32}
 use Rattle.annbuild_words.proofs.query_line.push_small.Goals as goal
 
