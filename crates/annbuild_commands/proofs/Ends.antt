@@ -32,7 +32,7 @@ use Rattle.annbuild_commands.specs.Faults.{write_fault_of}
 use Rattle.annbuild_commands.specs.IndexOf.{file_of, line_of, told_of, kind_at}
 use Rattle.annbuild_commands.specs.Building.{IsIndexOf, IsBuilt, IsTold, IsOfWriting, LeavesFile, LeavesLine}
 use Rattle.annbuild_commands.specs.Querying.{LeavesLines, IsOfAnswering}
-use Rattle.annbuild_commands.specs.Commands.{refusal, IsReached, Tells, IsReadOf, IsWriteOf, HasCause, IsQuiet}
+use Rattle.annbuild_commands.specs.Commands.{refusal, IsReached, Tells, IsReadOf, IsWriteOf, HasCause, IsQuiet, Leaves, LeavesOut, WritesInOrder}
 use Rattle.annbuild_commands.specs.Reading.{IsOfReading, IsReadFault}
 use Rattle.annbuild_commands.specs.Ending.{OnCommand}
 use Rattle.annbuild_commands.proofs.LineLists.{no_lines}
@@ -292,3 +292,16 @@ on_command Q m c e q = subst (λ n. OnCommand n Q) e q
 -- what is said of a fault holds where it came
 pub on_fault : (P : Fault → Type 0) (o : Option Fault) (f : Fault) → o ≡ Some f → P f → IfSome o P
 on_fault P o f e p = subst (λ v. IfSome v P) (sym e) p
+
+-- want of memory before anything was done
+pub none_leaves : (c : Command) (f : Files) → Leaves c f f NoMemory
+none_leaves (Builds base index o) f = inl refl
+none_leaves (Queried base index queries o) f = refl
+
+pub none_out : (c : Command) (wants : Type 0) (f : Files) (t : List ℕ) → LeavesOut c wants f t t NoMemory
+none_out (Builds base index o) wants f t = (0, sym (append-nil t))
+none_out (Queried base index queries o) wants f t = inl (0, sym (append-nil t) ∙ ap (λ x. t ++ x) (sym (no_lines 0)))
+
+pub none_order : (c : Command) (f : Files) (after : Option Files) (written : Option (List ℕ)) → WritesInOrder c f after written written
+none_order (Builds base index o) f after written = inl refl
+none_order (Queried base index queries o) f after written = tt

@@ -22,7 +22,7 @@ use bin_files::Points;
 use graph_files::{Index, write_index};
 use std::alloc::Global;
 use std::thread::Threads;
-use steal_pool::{RayonRounds, Rounds, SerialRounds};
+use steal_pool::{RayonRounds, Rounds, SerialRounds, StealRounds};
 use vamana_build::{Plan, Vamana, VamanaSettings};
 
 /// The greatest number of words that the rows of an index take.
@@ -114,6 +114,10 @@ fn index_by<R: Threads + Sync, G: Gate + Sync>(
         }
         PoolKind::Rayon => {
             let mut pool = RayonRounds::new(options.workers);
+            index_on(rt, alloc, points, options, &mut pool, gate)
+        }
+        PoolKind::Steal => {
+            let mut pool = StealRounds::new(options.workers);
             index_on(rt, alloc, points, options, &mut pool, gate)
         }
     }

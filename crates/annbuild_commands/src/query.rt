@@ -24,7 +24,7 @@ use batch_search::{QueryBatch, answer_round, posts_for};
 use beam_search::Scratch;
 use std::alloc::Global;
 use std::thread::Threads;
-use steal_pool::{Post, RayonRounds, Rounds, SerialRounds};
+use steal_pool::{Post, RayonRounds, Rounds, SerialRounds, StealRounds};
 
 /// The greatest number of queries in a round.
 const MAX_TASKS: u32 = 4096;
@@ -172,6 +172,10 @@ fn answer_by<R: Threads + Sync, O: Out, G: Gate + Sync>(
         }
         PoolKind::Rayon => {
             let mut pool = RayonRounds::new(options.workers);
+            answer_on(rt, alloc, batch, &mut pool, out, gate)
+        }
+        PoolKind::Steal => {
+            let mut pool = StealRounds::new(options.workers);
             answer_on(rt, alloc, batch, &mut pool, out, gate)
         }
     }

@@ -1,14 +1,27 @@
-use Rattle.std.proofs.Common.{◌≡◌, Some, IfSome, sym, subst}
+use Rattle.std.proofs.Common.{◌≡◌, ◌∙◌, Some, IfSome, subst, List, ℕ}
 use Rattle.std.specs.Prelude.{IfErr}
+use Rattle.ann_shelf.specs.Faults.{Rose}
 use Rattle.ann_shelf.specs.Files.{Files}
 use Rattle.annbuild_words.specs.Asked.{command_of}
-use Rattle.annbuild_commands.specs.Commands.{Leaves}
+use Rattle.annbuild_commands.specs.Commands.{Leaves, LeavesOut}
+use Rattle.annbuild_commands.proofs.Ends.{told_here, none_leaves, none_out, none_order}
 use Rattle.annbuild_commands.proofs.request.answer.Goals as goal
 
-pub returns-in-Build-clause-leaves : goal.returns-in-Build-clause-leaves
-returns-in-Build-clause-leaves g c = subst (λ r. IfErr c.build.result (λ fault. IfSome (g.F.Shelf.held c.args.shelf.now) (λ files. (after : Files) × (g.F.Shelf.held c.build.new.shelf ≡ Some after)
-    × Leaves (command_of r) files after fault))) (sym c.in-Build.is) c.build.ensures.leaves
+pub returns-in-Err-clause-leaves : goal.returns-in-Err-clause-leaves
+returns-in-Err-clause-leaves g c = told_here (g.F.Shelf.held c.args.shelf.now) (λ files is. (files, is, none_leaves (command_of c.args.request.now) files))
 
-pub returns-in-Query-clause-leaves : goal.returns-in-Query-clause-leaves
-returns-in-Query-clause-leaves g c = subst (λ r. IfErr c.query.result (λ fault. IfSome (g.F.Shelf.held c.args.shelf.now) (λ files. (after : Files) × (g.F.Shelf.held c.query.new.shelf ≡ Some after)
-    × Leaves (command_of r) files after fault))) (sym c.in-Query.is) c.query.ensures.leaves
+pub returns-in-Err-clause-leaves_out : goal.returns-in-Err-clause-leaves_out
+returns-in-Err-clause-leaves_out g c = told_here (g.F.Shelf.held c.args.shelf.now) (λ files held. told_here (g.O.Out.written c.args.out.now) (λ before is.
+    (before, is, none_out (command_of c.args.request.now) (Rose (g.O.Out.wants c.args.out.now) (g.O.Out.wants c.args.out.now)) files before)))
+
+pub returns-in-Err-clause-in_order : goal.returns-in-Err-clause-in_order
+returns-in-Err-clause-in_order g c = told_here (g.F.Shelf.held c.args.shelf.now) (λ files held. none_order (command_of c.args.request.now) files (g.F.Shelf.held c.args.shelf.now) (g.O.Out.written c.args.out.now))
+
+pub returns-in-Ok-clause-leaves : goal.returns-in-Ok-clause-leaves
+returns-in-Ok-clause-leaves g c = subst (λ m. IfErr c.done.result (λ fault. IfSome (g.F.Shelf.held c.args.shelf.now) (λ files. (after : Files) × (g.F.Shelf.held c.done.new.shelf ≡ Some after) × Leaves m files after fault)))
+    (c.request.ensures ∙ c.in-Ok.ensures) c.done.ensures.leaves
+
+pub returns-in-Ok-clause-leaves_out : goal.returns-in-Ok-clause-leaves_out
+returns-in-Ok-clause-leaves_out g c = subst (λ m. IfErr c.done.result (λ fault. IfSome (g.F.Shelf.held c.args.shelf.now) (λ files. IfSome (g.O.Out.written c.args.out.now) (λ before. (after : List ℕ) × (g.O.Out.written c.done.new.out ≡ Some after)
+    × LeavesOut m (Rose (g.O.Out.wants c.args.out.now) (g.O.Out.wants c.done.new.out)) files before after fault))))
+    (c.request.ensures ∙ c.in-Ok.ensures) c.done.ensures.leaves_out

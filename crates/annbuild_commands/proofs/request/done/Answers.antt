@@ -1,0 +1,14 @@
+use Rattle.std.proofs.Common.{◌≡◌, Some, IfSome, sym, subst}
+use Rattle.std.specs.Prelude.{IfErr}
+use Rattle.ann_shelf.specs.Files.{Files}
+use Rattle.annbuild_words.specs.Asked.{command_of}
+use Rattle.annbuild_commands.specs.Commands.{Leaves}
+use Rattle.annbuild_commands.proofs.request.done.Goals as goal
+
+pub returns-in-Build-clause-leaves : goal.returns-in-Build-clause-leaves
+returns-in-Build-clause-leaves g c = subst (λ r. IfErr c.build.result (λ fault. IfSome (g.F.Shelf.held c.args.shelf.now) (λ files. (after : Files) × (g.F.Shelf.held c.build.new.shelf ≡ Some after)
+    × Leaves (command_of r) files after fault))) (sym c.in-Build.is) c.build.ensures.leaves
+
+pub returns-in-Query-clause-leaves : goal.returns-in-Query-clause-leaves
+returns-in-Query-clause-leaves g c = subst (λ r. IfErr c.query.result (λ fault. IfSome (g.F.Shelf.held c.args.shelf.now) (λ files. (after : Files) × (g.F.Shelf.held c.query.new.shelf ≡ Some after)
+    × Leaves (command_of r) files after fault))) (sym c.in-Query.is) c.query.ensures.leaves
