@@ -88,6 +88,10 @@ fn every_pool_and_number_of_workers_gives_the_same_index(rt: HostRuntime) {
         "build pts ann --order file --start first --degree 2 --beam 4 --alpha 1/1 --cap 4 --pool rayon --workers 2",
         "build pts ann --order file --start first --degree 2 --beam 4 --alpha 1/1 --cap 4 --pool rayon --workers 7",
         "build pts ann --order file --start first --degree 2 --beam 4 --alpha 1/1 --cap 4 --pool rayon --workers 64",
+        "build pts ann --order file --start first --degree 2 --beam 4 --alpha 1/1 --cap 4 --pool steal --workers 1",
+        "build pts ann --order file --start first --degree 2 --beam 4 --alpha 1/1 --cap 4 --pool steal --workers 2",
+        "build pts ann --order file --start first --degree 2 --beam 4 --alpha 1/1 --cap 4 --pool steal --workers 7",
+        "build pts ann --order file --start first --degree 2 --beam 4 --alpha 1/1 --cap 4 --pool steal --workers 64",
     ];
     for words in choices {
         let ended = call(&rt, rt.alloc(), words, &[("pts", FOUR)], NONE).expect(&rt, "memory");

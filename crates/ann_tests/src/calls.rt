@@ -1,5 +1,5 @@
 //! One call of the program over files in memory, and what stands after it.
-use ann_shelf::{FreeGate, MemOut, MemShelf, NoMemory};
+use ann_shelf::{FreeGate, Gate, MemOut, MemShelf, NoMemory};
 use annbuild_commands::{Status, annbuild};
 use std::alloc::Global;
 use std::sync::Wait;
@@ -7,14 +7,14 @@ use std::thread::Threads;
 
 /// Which calls of the outside fail, by their numbers from 1; 0 for none.
 #[derive(Clone, Copy)]
-pub struct Failing {
+pub(crate) struct Failing {
     pub shelf: u64,
     pub out: u64,
     pub err: u64,
 }
 
 /// None fails.
-pub const NONE: Failing = Failing {
+pub(crate) const NONE: Failing = Failing {
     shelf: 0,
     out: 0,
     err: 0,
@@ -22,7 +22,7 @@ pub const NONE: Failing = Failing {
 
 /// How a call ended, and what stands then.
 #[derive(Drop)]
-pub struct Outcome {
+pub(crate) struct Outcome {
     pub status: Status,
     pub shelf: MemShelf,
     pub out: MemOut,
@@ -30,7 +30,7 @@ pub struct Outcome {
 }
 
 /// The words of a text.
-pub fn words_in(alloc: Global, text: &str) -> Result<Vec<String>, NoMemory> {
+pub(crate) fn words_in(alloc: Global, text: &str) -> Result<Vec<String>, NoMemory> {
     let mut words = Vec::new(alloc);
     for word in text.split_whitespace() {
         words.push(String::from_str(alloc, word)?)?;
@@ -38,13 +38,14 @@ pub fn words_in(alloc: Global, text: &str) -> Result<Vec<String>, NoMemory> {
     Ok(words)
 }
 
-/// Does what the words say over these files.
-pub fn call<R: Threads + Wait + Sync>(
+/// Does what the words say over these files, with this gate.
+pub(crate) fn call_at<R: Threads + Wait + Sync, G: Gate + Sync>(
     rt: &R,
     alloc: Global,
     text: &str,
     files: &[(&str, &[u8])],
     failing: Failing,
+    gate: &G,
 ) -> Result<Outcome, NoMemory> {
     let words = words_in(alloc, text)?;
     let mut shelf = MemShelf::new(alloc);
@@ -56,11 +57,22 @@ pub fn call<R: Threads + Wait + Sync>(
     out.fail_call(failing.out)?;
     let mut err = MemOut::new(alloc);
     err.fail_call(failing.err)?;
-    let status = annbuild(rt, alloc, &words, &mut shelf, &mut out, &mut err, &FreeGate);
+    let status = annbuild(rt, alloc, &words, &mut shelf, &mut out, &mut err, gate);
     Ok(Outcome {
         status,
         shelf,
         out,
         err,
     })
+}
+
+/// The same with a gate whose calls do nothing.
+pub(crate) fn call<R: Threads + Wait + Sync>(
+    rt: &R,
+    alloc: Global,
+    text: &str,
+    files: &[(&str, &[u8])],
+    failing: Failing,
+) -> Result<Outcome, NoMemory> {
+    call_at(rt, alloc, text, files, failing, &FreeGate)
 }

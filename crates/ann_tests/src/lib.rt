@@ -13,6 +13,8 @@ mod failing;
 #[cfg(test)]
 mod files;
 #[cfg(test)]
+mod gates;
+#[cfg(test)]
 mod query;
 #[cfg(test)]
 mod refusals;
