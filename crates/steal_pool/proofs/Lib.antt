@@ -13,3 +13,4 @@ pub mod Progress
 pub mod Counts
 pub mod StolenRounds
 pub mod RoundEvents
+pub mod Forking

@@ -13,6 +13,7 @@
 mod blocks;
 mod board;
 mod close;
+mod fork;
 mod post;
 mod ranges;
 mod rayon_rounds;

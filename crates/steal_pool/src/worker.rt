@@ -6,13 +6,13 @@ ghost use Rattle.steal_pool.specs.Steps.{AllBack, HasEntryOf};
 ghost use Rattle.steal_pool.specs.Work.{AllServe, scratch_of};
 
 use crate::board::{Board, Claim, Pass};
+use crate::fork::for_each_from;
 use crate::post::Post;
 use crate::ranges::TaskRange;
 use crate::turns::Search;
 use crate::work::Work;
 use ann_shelf::Gate;
 use crossbeam_deque::{Stealer, Worker};
-use std::thread;
 use std::thread::Threads;
 
 // Claims a task, and runs it if nobody else has it.
@@ -179,14 +179,13 @@ pub(crate) fn run_workers<R: Threads + Sync, W: Work, G: Gate + Sync>(
     ensures ready { EachFrom 0 (HasPass board.now (W.want work.now)) posts.new }
     ensures serve { AllServe (W.serves work.now) posts.new }
 {
-    let workers = posts.len();
-    thread::for_each_mut(
+    for_each_from(
         rt,
-        posts,
-        workers,
         &|i: usize, post: &mut Post<W::Scratch>|
             requires { (i < length stealers.now) × (length stealers.now ≤ 64) × Fits board.now.size (W.want work.now) (W.wide work.now) × HasPass board.now (W.want work.now) i post.now × W.serves work.now (scratch_of post.now) }
             ensures { HasPass board.entry.now (W.want work.entry.now) i post.exit.now × W.serves work.entry.now (scratch_of post.exit.now) }
         { run_post(board, work, post, i as u32, stealers, gate) },
+        0,
+        posts,
     );
 }
