@@ -1,5 +1,9 @@
 -- Counts of faults, as numbers that do not fall and stop at the last value of u64.
-use Rattle.std.specs.Prelude.{◌⊎◌, ℕ, ◌+◌, ◌<◌, ◌≤◌, ◌^◌, List}
+use Rattle.std.specs.Prelude.{◌⊎◌, ℕ, ◌+◌, ◌-◌, ◌<◌, ◌≤◌, ◌^◌, min, List}
+
+-- one more, up to the last value of u64
+abbrev pub next_count : ℕ → ℕ
+next_count n = min (n + 1) (2 ^ 64 - 1)
 
 -- the count rose, or stands at the last value of u64
 abbrev pub Rose : ℕ → ℕ → Type 0

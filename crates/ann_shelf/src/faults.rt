@@ -1,12 +1,13 @@
 // Counts of faults and of want of memory.
 ghost use Rattle.std.specs.Prelude.{◌≡◌, ◌≤◌};
-ghost use Rattle.ann_shelf.specs.Faults.{Rose};
+ghost use Rattle.ann_shelf.specs.Faults.{Rose, next_count};
 
 use crate::Slip;
 
 // Counts a fault. The count stays at the last value of u64.
 pub(crate) fn failed(count: &mut u64) -> Slip
     ensures slip { result ≡ Slip.Failed }
+    ensures counted { count.new ≡ next_count count.old }
     ensures rose { Rose count.old count.new }
     ensures grew { count.old ≤ count.new }
 {
@@ -17,6 +18,7 @@ pub(crate) fn failed(count: &mut u64) -> Slip
 // Counts a want of memory. The count stays at the last value of u64.
 pub(crate) fn wanted(count: &mut u64) -> Slip
     ensures slip { result ≡ Slip.NoMemory }
+    ensures counted { count.new ≡ next_count count.old }
     ensures rose { Rose count.old count.new }
     ensures grew { count.old ≤ count.new }
 {

@@ -1,6 +1,6 @@
 ghost use Rattle.std.specs.Prelude.{◌≡◌, true, false, ◌||◌, ◌==◌, ◌++◌, [], ◌≤◌, ℕ, Some, length, OnOk, OnErr, IfOk, IsErrOf};
 ghost use Rattle.ann_shelf.specs.Calls.{next_call};
-ghost use Rattle.ann_shelf.specs.Faults.{Rose};
+ghost use Rattle.ann_shelf.specs.Faults.{Rose, next_count};
 
 use crate::calls::is_to_fail;
 use crate::faults::{failed, wanted};
@@ -76,11 +76,15 @@ impl Out for MemOut {
         ensures ok { OnOk result (out_bytes self.new ≡ out_bytes self.old ++ bytes.now) }
         ensures err { OnErr result (out_bytes self.new ≡ out_bytes self.old) }
         ensures answered { OnOk result (next_write_fails self.old ≡ false) }
+        ensures set { next_write_fails self.old ≡ true → IsErrOf result Slip.Failed }
         ensures refused { IsErrOf result Slip.Failed → next_write_fails self.old ≡ true }
         ensures calls { out_calls self.new ≡ next_call (out_calls self.old) }
         ensures failing { out_fails self.new ≡ out_fails self.old }
         ensures faults_stay { out_faults self.old ≤ out_faults self.new }
         ensures wants_stay { out_wants self.old ≤ out_wants self.new }
+        ensures uncounted { OnOk result ((out_faults self.new ≡ out_faults self.old) × (out_wants self.new ≡ out_wants self.old)) }
+        ensures fault_counted { IsErrOf result Slip.Failed → (out_faults self.new ≡ next_count (out_faults self.old)) × (out_wants self.new ≡ out_wants self.old) }
+        ensures want_counted { IsErrOf result Slip.NoMemory → (out_wants self.new ≡ next_count (out_wants self.old)) × (out_faults self.new ≡ out_faults self.old) }
         ensures cause { IsErrOf result Slip.Failed → Rose (out_faults self.old) (out_faults self.new) }
         ensures want { IsErrOf result Slip.NoMemory → Rose (out_wants self.old) (out_wants self.new) }
     {

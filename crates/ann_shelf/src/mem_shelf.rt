@@ -1,7 +1,7 @@
 ghost use Rattle.std.specs.Prelude.{◌≡◌, ◌⊎◌, true, false, ◌||◌, ◌==◌, ◌++◌, [], ◌≤◌, ℕ, Some, None, length, OnOk, OnErr, IfOk, IfErr, IsSome, IsErrOf, option_map};
 ghost use Rattle.std.specs.FinMap.{get};
 ghost use Rattle.ann_shelf.specs.Calls.{next_call};
-ghost use Rattle.ann_shelf.specs.Faults.{Rose};
+ghost use Rattle.ann_shelf.specs.Faults.{Rose, next_count};
 ghost use Rattle.ann_shelf.specs.Files.{Files, no_files, bytes_of, with_file, Reads, AddedSome, EmptiedOrSame};
 
 use crate::calls::is_to_fail;
@@ -116,6 +116,8 @@ impl Shelf for MemShelf {
         ensures failing { shelf_fails self.new ≡ shelf_fails self.old }
         ensures reads { shelf_read_faults self.old ≤ shelf_read_faults self.new }
         ensures writes { shelf_write_faults self.new ≡ shelf_write_faults self.old }
+        ensures counted { OnErr result (shelf_read_faults self.new ≡ next_count (shelf_read_faults self.old)) }
+        ensures uncounted { OnOk result (shelf_read_faults self.new ≡ shelf_read_faults self.old) }
         ensures cause { IsErrOf result Slip.Failed → Rose (shelf_read_faults self.old) (shelf_read_faults self.new) }
     {
         if is_to_fail(&mut self.calls, &self.failing) {
@@ -133,11 +135,15 @@ impl Shelf for MemShelf {
         ensures err { OnErr result (shelf_files self.new ≡ shelf_files self.old) }
         ensures failed { IsErrOf result Slip.Failed → (after : Files) × (Some (shelf_files self.new) ≡ Some after) × EmptiedOrSame (shelf_files self.old) after name.now }
         ensures answered { OnOk result (next_fails self.old ≡ false) }
+        ensures set { next_fails self.old ≡ true → IsErrOf result Slip.Failed }
         ensures refused { IsErrOf result Slip.Failed → next_fails self.old ≡ true }
         ensures calls { shelf_calls self.new ≡ next_call (shelf_calls self.old) }
         ensures failing { shelf_fails self.new ≡ shelf_fails self.old }
         ensures reads { shelf_read_faults self.new ≡ shelf_read_faults self.old }
         ensures writes { shelf_write_faults self.old ≤ shelf_write_faults self.new }
+        ensures counted { IsErrOf result Slip.Failed → shelf_write_faults self.new ≡ next_count (shelf_write_faults self.old) }
+        ensures uncounted { OnOk result (shelf_write_faults self.new ≡ shelf_write_faults self.old) }
+        ensures no_memory_uncounted { IsErrOf result Slip.NoMemory → shelf_write_faults self.new ≡ shelf_write_faults self.old }
         ensures cause { IsErrOf result Slip.Failed → Rose (shelf_write_faults self.old) (shelf_write_faults self.new) }
     {
         if is_to_fail(&mut self.calls, &self.failing) {
@@ -157,11 +163,16 @@ impl Shelf for MemShelf {
         ensures err { OnErr result (shelf_files self.new ≡ shelf_files self.old) }
         ensures failed { IsErrOf result Slip.Failed → (after : Files) × (Some (shelf_files self.new) ≡ Some after) × AddedSome (shelf_files self.old) after name.now bytes.now }
         ensures answered { OnOk result ((next_fails self.old ≡ false) × IsSome (get (shelf_files self.old) name.now)) }
+        ensures set { next_fails self.old ≡ true → IsErrOf result Slip.Failed }
+        ensures missing { get (shelf_files self.old) name.now ≡ None → IsErrOf result Slip.Failed }
         ensures refused { IsErrOf result Slip.Failed → (next_fails self.old ≡ true) ⊎ (get (shelf_files self.old) name.now ≡ None) }
         ensures calls { shelf_calls self.new ≡ next_call (shelf_calls self.old) }
         ensures failing { shelf_fails self.new ≡ shelf_fails self.old }
         ensures reads { shelf_read_faults self.new ≡ shelf_read_faults self.old }
         ensures writes { shelf_write_faults self.old ≤ shelf_write_faults self.new }
+        ensures counted { IsErrOf result Slip.Failed → shelf_write_faults self.new ≡ next_count (shelf_write_faults self.old) }
+        ensures uncounted { OnOk result (shelf_write_faults self.new ≡ shelf_write_faults self.old) }
+        ensures no_memory_uncounted { IsErrOf result Slip.NoMemory → shelf_write_faults self.new ≡ shelf_write_faults self.old }
         ensures cause { IsErrOf result Slip.Failed → Rose (shelf_write_faults self.old) (shelf_write_faults self.new) }
     {
         if is_to_fail(&mut self.calls, &self.failing) {
@@ -237,7 +248,8 @@ mod tests {
         );
         assert_eq!(rt; shelf.bytes("a"), Some([7, 8].as_slice()));
         assert_eq!(rt; shelf.bytes("b"), None);
-        assert_eq!(rt; shelf.calls(), 7);
+        assert_eq!(rt; append_all(&mut shelf, "b", &[9]), Err(Slip::Failed));
+        assert_eq!(rt; shelf.calls(), 8);
         Ok(())
     }
 }

@@ -50,6 +50,7 @@ pub(crate) fn extend_file(
 ) -> Result<bool, AllocError>
     ensures held { IfOk result (λ found. found ≡ true → IsSome (get (files_of files.old.items) name.now) × (files_of files.new.items
         ≡ with_file (files_of files.old.items) name.now (bytes_of (files_of files.old.items) name.now ++ piece.now))) }
+    ensures wanted { OnErr result (IsSome (get (files_of files.old.items) name.now)) }
     ensures missing { IfOk result (λ found. found ≡ false → (get (files_of files.old.items) name.now ≡ None) × (files_of files.new.items ≡ files_of files.old.items)) }
     ensures err { OnErr result (files_of files.new.items ≡ files_of files.old.items) }
 {
