@@ -12,8 +12,11 @@ use crate::{Points, PointsFault, PointsRule};
 use ann_shelf::{Quantity, Shelf, Slip};
 use std::alloc::Global;
 
+// How many bytes one call of a shelf is asked for at most.
+const PIECE: usize = 262144;
+
 /// Reads from a place of a file on, in bytes from 0, until the buffer is full or the file ends, and answers how many
-/// bytes came. Each call of the shelf asks for all that is left.
+/// bytes came. Each call of the shelf puts at most 262,144 bytes straight into their place.
 pub fn read_full<F: Shelf>(
     shelf: &mut F,
     name: &str,
@@ -30,7 +33,8 @@ pub fn read_full<F: Shelf>(
 {
     let mut done = 0usize;
     while done < into.len() {
-        match shelf.read_at(name, at + done as u64, &mut into[done..]) {
+        let part = PIECE.min(into.len() - done);
+        match shelf.read_at(name, at + done as u64, &mut into[done..done + part]) {
             Ok(k) => {
                 if k == 0 {
                     return Ok(done);
