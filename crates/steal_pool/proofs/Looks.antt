@@ -31,13 +31,28 @@ looks size slots id t m live below s r count at fits = let q = r.each_word t bel
       (
         refl,
         (λ i j e f a b same. (r.entry_once id id i j m.0 m.0 e f (at, live) (at, live) a b same).1),
-        (λ free all. subst (λ (j : ℕ). Shown m.0 j (slice_index s.words (t + 1))) task (shows size s r id m.0 (at, live) free all t (slice_index s.words (t + 1)) q.0 q.1 is)),
+        (λ above free all. subst (λ (j : ℕ). Shown m.0 j (slice_index s.words (t + 1))) task (shows size s r id m.0 (at, live) free all t (slice_index s.words (t + 1)) q.0 q.1 is)),
+      ),
+    )
+
+-- a load of word 0, which is no task's
+pub looks_first : (size : Size) (slots id : ℕ) (m : Seated) → m.0.live ≡ true → Allows (Rule size) slots id m 0 (λ n. n) (looked (step slots 0 0 0 none) m)
+looks_first size slots id m live s r count at fits = let is = index_at s.words 0 0 r.first_word in
+    let words : set s.words 0 (slice_index s.words 0) ≡ s.words = ap (set s.words 0) is ∙ set_again s.words 0 0 r.first_word in (
+      m.0,
+      keeps,
+      tt,
+      subst (Rule size) (sym (λ i. record { words = words i; homes = s.homes; views = set_again s.views id m.0 at i })) r,
+      (
+        refl,
+        (λ i j e f a b same. (r.entry_once id id i j m.0 m.0 e f (at, live) (at, live) a b same).1),
+        (λ (above : 0 < 0). absurd (omega arith)),
       ),
     )
 
 -- what a load tells, with the task for itself
-pub tells_look : (t n : ℕ) (m m' : Seated) → (m' ≡ m) × OnePerTask m.0 × (m.0.held ≡ None → AllBack m.0 → Shown m.0 (t + 1 - 1) n) → m.0.held ≡ None → AllBack m.0 → Shown m.0 t n
-tells_look t n m m' h free all = let at : t + 1 - 1 ≡ t = omega arith in subst (λ (j : ℕ). Shown m.0 j n) at (h.2 free all)
+pub tells_look : (t n : ℕ) (m m' : Seated) → (m' ≡ m) × OnePerTask m.0 × (0 < t + 1 → m.0.held ≡ None → AllBack m.0 → Shown m.0 (t + 1 - 1) n) → m.0.held ≡ None → AllBack m.0 → Shown m.0 t n
+tells_look t n m m' h free all = let at : t + 1 - 1 ≡ t = omega arith in subst (λ (j : ℕ). Shown m.0 j n) at (h.2 (omega arith) free all)
 
 half_of : (i n : ℕ) → n ≡ 2 * i + 2 → i ≡ n / 2 - 1
 half_of i n e = omega arith

@@ -144,6 +144,6 @@ pub join_shown : (size : Size) (s : Table) (id other : ℕ) (v w : View) (r : Ro
     → ShowsRound size record { words = s.words; homes = s.homes; views = set (set s.views id (taken_over v w)) other spent } r
 join_shown size s id other v w r shows = stays_shown size s record { words = s.words; homes = s.homes; views = set (set s.views id (taken_over v w)) other spent } r refl refl shows
 
-pub load_shown : (size : Size) (s : Table) (t n id : ℕ) (v : View) (c : List (ℕ × Block)) (r : RoundState) → get_elem? s.words (t + 1) ≡ some n → ShowsRound size s r
-    → ShowsRound size (stepped s (t + 1) n id c v keeps) r
-load_shown size s t n id v c r says shows = stays_shown size s (stepped s (t + 1) n id c v keeps) r (set_again s.words (t + 1) n says) refl shows
+pub load_shown : (size : Size) (s : Table) (word n id : ℕ) (v : View) (c : List (ℕ × Block)) (r : RoundState) → get_elem? s.words word ≡ some n → ShowsRound size s r
+    → ShowsRound size (stepped s word n id c v keeps) r
+load_shown size s word n id v c r says shows = stays_shown size s (stepped s word n id c v keeps) r (set_again s.words word n says) refl shows

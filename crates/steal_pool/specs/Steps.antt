@@ -56,5 +56,6 @@ OnePerTask v = (i j : ℕ) (e f : Entry) → get_elem? v.entries i ≡ some e �
 abbrev pub Shown : View → ℕ → ℕ → Type 0
 Shown v t n = ((n ≡ 0) × NoEntry v t) ⊎ ((e : Entry) × HasEntry v e × (e.task ≡ t) × (n ≡ code (done e.worker)) × (e.worker ≤ v.size.workers))
 
+-- a load changes nothing; word 0 is no task's
 abbrev pub looked : Step Block → Seated → ℕ → Seated → Type 0
-looked st m n m' = (m' ≡ m) × OnePerTask m.0 × (m.0.held ≡ None → AllBack m.0 → Shown m.0 (task_of st) n)
+looked st m n m' = (m' ≡ m) × OnePerTask m.0 × (0 < st.word → m.0.held ≡ None → AllBack m.0 → Shown m.0 (task_of st) n)

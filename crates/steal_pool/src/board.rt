@@ -146,7 +146,6 @@ impl Board {
     pub fn join(&self, own: &mut Pass, pass: Pass)
         requires own { (own.old.board ≡ self.now) × (own.old.view.number ≡ self.now.size.workers) }
         requires pass { (pass.board ≡ self.now) × (pass.view.held ≡ None) }
-        requires some { 0 < self.now.size.tasks }
         ensures joined { own.new ≡ record own.old { view = taken_over own.old.view pass.view } }
         ensures apart { (e f : Entry) → HasEntry own.old.view e → HasEntry pass.view f → e.task ≢ f.task }
     {
@@ -160,7 +159,7 @@ impl Board {
             alloc: _,
         } = pass;
         words.join_seat::<Returns>(&mut own.seat, seat);
-        words.load::<Looks>(&mut own.seat, 1);
+        words.load::<Looks>(&mut own.seat, 0);
     }
 
     /// Who has done the task, once all numbers are back: one atomic load of its word.

@@ -10,6 +10,8 @@
 //! A stolen round is a `Round`. `Board`, `Pass` and `Claim` are its steps, and `Report` says who ran which task.
 #![tactic(auto)]
 
+#[cfg(test)]
+mod begun_tests;
 mod blocks;
 mod board;
 mod close;

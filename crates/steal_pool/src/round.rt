@@ -46,7 +46,7 @@ impl Model for Round {
     ghost view = { λ r. r.board.size };
 
     ghost invariant = { λ r. (r.own ≡ caller_of r.board r.board.size.workers) × AllFresh r.board r.board.size.workers r.passes.items
-        × (length r.deques.items ≡ r.board.size.workers) × (length r.stealers.items ≡ r.board.size.workers) × (0 < r.board.size.workers) × (0 < r.board.size.tasks) };
+        × (length r.deques.items ≡ r.board.size.workers) × (length r.stealers.items ≡ r.board.size.workers) × (0 < r.board.size.workers) };
 }
 
 impl Round {

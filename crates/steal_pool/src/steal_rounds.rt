@@ -5,7 +5,7 @@ use crate::rounds::{Rounds, Way};
 
 /// Workers that run one `Round` for each call: a fixed share each at first, and then what they steal from each other.
 ///
-/// A thread of its own stands for each worker where one can be started.
+/// The last worker runs in the caller's thread, and each other in a thread of its own where one can be started.
 #[derive(Drop)]
 pub struct StealRounds {
     workers: u32,

@@ -15,7 +15,7 @@ use std::thread;
 
 #[test]
 fn report_of_three_workers_adds_up(rt: HostRuntime) -> Result<(), Fail> {
-    let work = Squares { tasks: 5 };
+    let work = Squares::of(5);
     let mut posts = [Post::new(7u32), Post::new(7u32), Post::new(7u32)];
     let round = Round::new(rt.alloc(), work.tasks(), work.width(), 3)?;
     let (blocks, report) = round.run(&rt, &work, &mut posts, &FreeGate);
@@ -151,7 +151,7 @@ impl Gate for WaitGate {
 
 #[test]
 fn two_tasks_that_wait_for_each_other_run_at_once(rt: HostRuntime) -> Result<(), Fail> {
-    let work = Squares { tasks: 2 };
+    let work = Squares::of(2);
     let gate = WaitGate::new([Some(1), Some(0), None, None]);
     let mut posts = [Post::new(7u32), Post::new(7u32)];
     let round = Round::new(rt.alloc(), work.tasks(), work.width(), 2)?;
@@ -163,7 +163,7 @@ fn two_tasks_that_wait_for_each_other_run_at_once(rt: HostRuntime) -> Result<(),
 
 #[test]
 fn a_task_that_holds_up_its_worker_has_its_neighbour_stolen(rt: HostRuntime) -> Result<(), Fail> {
-    let work = Squares { tasks: 4 };
+    let work = Squares::of(4);
     let gate = WaitGate::new([Some(1), None, Some(0), None]);
     let mut posts = [Post::new(7u32), Post::new(7u32)];
     let round = Round::new(rt.alloc(), work.tasks(), work.width(), 2)?;

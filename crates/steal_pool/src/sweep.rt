@@ -20,7 +20,7 @@ pub(crate) fn join_all<W: Work>(
     own: &mut Pass,
 )
     requires own { own.old ≡ caller_of board.now board.now.size.workers }
-    requires posts { (length posts.old ≡ board.now.size.workers) × (0 < board.now.size.tasks) }
+    requires posts { length posts.old ≡ board.now.size.workers }
     requires ready { EachFrom 0 (HasPass board.now (W.want work.now)) posts.old }
     requires serve { AllServe (W.serves work.now) posts.old }
     ensures ready { Ready board.now (W.want work.now) own.new }

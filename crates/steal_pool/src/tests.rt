@@ -9,12 +9,26 @@ use crate::steal_rounds::StealRounds;
 use crate::work::Work;
 use ann_shelf::{FreeGate, NoMemory};
 use std::alloc::Global;
+use std::sync::atomic::{AtomicU64, Ordering};
 use std::test::Fail;
 
 // Task t wants t and t·t. A scratch that serves is 7.
 #[derive(Drop)]
 pub(crate) struct Squares {
     pub(crate) tasks: u32,
+    // how many tasks were run
+    pub(crate) runs: AtomicU64,
+}
+
+impl Squares {
+    pub(crate) fn of(tasks: u32) -> Squares
+        ensures { result.tasks ≡ tasks }
+    {
+        Squares {
+            tasks,
+            runs: AtomicU64::new(0),
+        }
+    }
 }
 
 impl Work for Squares {
@@ -38,6 +52,7 @@ impl Work for Squares {
     }
 
     fn run(&self, _scratch: &mut u32, task: u32, out: &mut [u32]) {
+        self.runs.fetch_add(1, Ordering::SeqCst);
         out.copy_from_slice(&[task, task.wrapping_mul(task)]);
     }
 }
@@ -46,7 +61,7 @@ const WANTED: [[u32; 2]; 5] = [[0, 0], [1, 1], [2, 4], [3, 9], [4, 16]];
 
 #[test]
 fn serial_blocks_are_the_wanted_ones(rt: HostRuntime) -> Result<(), Fail> {
-    let work = Squares { tasks: 5 };
+    let work = Squares::of(5);
     let mut posts = [Post::new(7u32)];
     let mut pool = SerialRounds::new();
     assert!(rt; pool.workers() == 1);
@@ -60,7 +75,7 @@ fn serial_blocks_are_the_wanted_ones(rt: HostRuntime) -> Result<(), Fail> {
 
 #[test]
 fn rayon_blocks_of_three_workers_are_the_wanted_ones(rt: HostRuntime) -> Result<(), Fail> {
-    let work = Squares { tasks: 5 };
+    let work = Squares::of(5);
     let mut posts = [Post::new(7u32), Post::new(7u32), Post::new(7u32)];
     let mut pool = RayonRounds::new(3);
     assert!(rt; pool.workers() == 3);
@@ -86,7 +101,7 @@ fn posts_of(alloc: Global, workers: u32) -> Result<Vec<Post<u32>>, NoMemory>
 
 #[test]
 fn rayon_blocks_of_many_workers_are_the_wanted_ones(rt: HostRuntime) -> Result<(), Fail> {
-    let work = Squares { tasks: 5 };
+    let work = Squares::of(5);
     let mut posts = posts_of(rt.alloc(), 64)?;
     let mut pool = RayonRounds::new(64);
     let blocks = pool.run_round(&rt, rt.alloc(), &work, posts.as_mut_slice(), &FreeGate)?;
@@ -99,7 +114,7 @@ fn rayon_blocks_of_many_workers_are_the_wanted_ones(rt: HostRuntime) -> Result<(
 
 #[test]
 fn steal_blocks_of_three_workers_are_the_wanted_ones(rt: HostRuntime) -> Result<(), Fail> {
-    let work = Squares { tasks: 5 };
+    let work = Squares::of(5);
     let mut posts = [Post::new(7u32), Post::new(7u32), Post::new(7u32)];
     let mut pool = StealRounds::new(3);
     assert!(rt; pool.workers() == 3);
@@ -113,7 +128,7 @@ fn steal_blocks_of_three_workers_are_the_wanted_ones(rt: HostRuntime) -> Result<
 
 #[test]
 fn steal_blocks_of_many_workers_are_the_wanted_ones(rt: HostRuntime) -> Result<(), Fail> {
-    let work = Squares { tasks: 5 };
+    let work = Squares::of(5);
     let mut posts = posts_of(rt.alloc(), 64)?;
     let mut pool = StealRounds::new(64);
     let blocks = pool.run_round(&rt, rt.alloc(), &work, posts.as_mut_slice(), &FreeGate)?;

@@ -163,7 +163,7 @@ fn run_post<W: Work, G: Gate>(
     );
 }
 
-// Runs each worker, in a thread of its own where there is one.
+// Runs each worker: the last in this thread, and each other in a thread of its own where one can be started.
 pub(crate) fn run_workers<R: Threads + Sync, W: Work, G: Gate + Sync>(
     rt: &R,
     board: &Board,

@@ -4,7 +4,7 @@ use Rattle.steal_pool.specs.declared.view.Size.{Size}
 use Rattle.steal_pool.specs.Rule.{HasEntry}
 use Rattle.steal_pool.specs.Steps.{Seated, OnePerTask}
 use Rattle.steal_pool.specs.Passes.{BoardId, PassState}
-use Rattle.steal_pool.proofs.Looks.{looks}
+use Rattle.steal_pool.proofs.Looks.{looks_first}
 use Rattle.steal_pool.proofs.Joins.{joins, joined_sound, apart_in_one}
 use Rattle.steal_pool.proofs.Holdings.{nothing_out}
 use Rattle.steal_pool.proofs.board.Board.join.Goals as goal
@@ -26,11 +26,10 @@ join_seat-requires c =
 -- src/board.rt:142:9
 pub load-requires : goal.load-requires
 load-requires c =
-    let b = ap (λ (z : PassState). z.board) c.own.view_is ∙ c.requires.own.0 ∙ sym c.self.view_is in let i = c.self.invariant in let e = c.join_seat.ensures in
-    let tasks = ap (λ (z : BoardId). z.size.tasks) c.self.view_is in let keys = ap (λ (z : Size). z.tasks) i.0 in let lt = c.requires.some in (
+    let b = ap (λ (z : PassState). z.board) c.own.view_is ∙ c.requires.own.0 ∙ sym c.self.view_is in let i = c.self.invariant in let e = c.join_seat.ensures in (
       e.0 ∙ ap (λ (z : BoardId). z.table) b,
       (let w = i.1 in omega arith),
-      looks _ _ _ 0 c.join_seat.new.seat.me (ap (λ (m : Seated). m.0.live) e.2 ∙ c.own.invariant.0) (omega arith),
+      looks_first _ _ _ c.join_seat.new.seat.me (ap (λ (m : Seated). m.0.live) e.2 ∙ c.own.invariant.0),
     )
 
 -- src/board.rt:125:5
