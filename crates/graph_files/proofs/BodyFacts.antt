@@ -1,5 +1,5 @@
 -- What is known of an index whose layers were read.
-use Rattle.std.proofs.Common.{◌≡◌, ℕ, ◌+◌, ◌*◌, ◌^◌, ◌<◌, ◌≤◌, Bool, true, nat_lt, List, [], ◌∷◌, length, sym, ap, subst, ◌∙◌, arith, None}
+use Rattle.std.proofs.Common.{◌≡◌, ℕ, ◌+◌, ◌≤◌, true, nat_lt, List, ◌∷◌, length, sym, ap, subst, ◌∙◌, arith, None}
 use Rattle.std.specs.List.{sum_by, range_with_len, enumerate_from}
 use Rattle.std.proofs.lemmas.Bool.{eqb-true}
 use Rattle.graph_files.specs.declared.header.Header.{Header}

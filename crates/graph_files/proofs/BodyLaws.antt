@@ -1,7 +1,6 @@
 -- The layers of a file from their parts.
-use Rattle.std.proofs.Common.{◌≡◌, ℕ, ◌+◌, ◌-◌, ◌≤◌, ◌<◌, List, [], ◌∷◌, length, drop, eqb, Bool, true, false, not, cond, Option, Some, None, Result, Ok, Err, refl, sym, ap, subst, ◌∙◌, nat_lt}
+use Rattle.std.proofs.Common.{◌≡◌, ℕ, ◌-◌, List, [], ◌∷◌, length, drop, eqb, Bool, true, false, not, cond, Some, None, Result, Ok, refl, sym, ap, subst, ◌∙◌, nat_lt}
 use Rattle.std.specs.List.{range_with_len, enumerate_from}
-use Rattle.std.proofs.lemmas.Bool.Decides.{nat_tests}
 use Rattle.graph_files.specs.Index.{Contents}
 use Rattle.graph_files.specs.declared.header.Header.{Header}
 use Rattle.graph_files.specs.declared.fault.IndexFault.{IndexFault}

@@ -1,16 +1,13 @@
 -- An index with one layer of good rows is well formed, and layer 0 of a well-formed index has good rows.
-use Rattle.std.proofs.Common.{◌≡◌, ℕ, zero, suc, ◌+◌, ◌<◌, ◌≤◌, true, List, [], length, get_or, refl, sym, ap, subst, ◌∙◌, inl, inr, arith, lit≤}
-use Rattle.std.specs.Prelude.{nat_lt, ◌==◌, ◌⊎◌}
+use Rattle.std.proofs.Common.{◌≡◌, ℕ, ◌<◌, ◌≤◌, true, List, [], length, get_or, refl, sym, ap, subst, ◌∙◌, inl, inr, arith, lit≤}
+use Rattle.std.specs.Prelude.{nat_lt, ◌⊎◌}
 use Rattle.std.specs.List.{range_with_len, enumerate_from}
 use Rattle.std.proofs.lemmas.Bool.{lt-ltb, ltb-true}
 use Rattle.std.proofs.lemmas.List.{length-map, get_or-map}
 use Rattle.std.proofs.lemmas.List.Elements.{All-weaker, All-from_get_or, All-get_or}
-use Rattle.std.proofs.lemmas.List.Folds.{list_any_at}
 use Rattle.std.proofs.lemmas.List.FromFn.{length-range_with_len, get_or-range_with_len, length-enumerate_from, get_or-enumerate_from}
-use Rattle.ann_defs.specs.Graph.{has, IsGoodRow, AreGoodRows}
-use Rattle.ann_defs.specs.Ordered.{Has}
-use Rattle.ann_defs.proofs.Members.{has_true}
-use Rattle.graph_files.specs.Index.{Contents, layer_ids, layer_rows, flat_contents}
+use Rattle.ann_defs.specs.Graph.{IsGoodRow, AreGoodRows}
+use Rattle.graph_files.specs.Index.{Contents, layer_rows, flat_contents}
 use Rattle.graph_files.specs.WellFormed.{layers_fit, base_bound, base_of, IsRowIn, AreRowsOf, IsWellFormed}
 use Rattle.graph_files.proofs.LayerLists.{ids_enumerate}
 

@@ -1,26 +1,25 @@
 -- A file is read as an index exactly where it is the text of one that is well formed and within the limits.
-use Rattle.std.proofs.Common.{◌≡◌, ℕ, zero, suc, ◌+◌, ◌-◌, ◌*◌, ◌^◌, ◌<◌, ◌≤◌, Bool, true, false, not, cond, nat_lt, eqb, List, [], ◌∷◌, ◌++◌, map, length, take, drop, get_or, Option, Some, None, Result, Ok, Err, inl, inr, refl, sym, ap, subst, ◌∙◌, arith, append_assoc, length-append, length-drop}
-use Rattle.std.specs.List.{IsDistinct, range_with_len, enumerate_from, flat_map, list_any}
-use Rattle.std.specs.Int.{w32, to_le_bytes, from_le_bytes}
-use Rattle.std.proofs.lemmas.Bool.{cases_lt, le-ltb, lt-ltb, ltb-true, ltb-false, eqb-true, eqb-false, ne_eqb, eq-eqb, not-true}
+use Rattle.std.proofs.Common.{◌≡◌, ℕ, zero, suc, ◌+◌, ◌-◌, ◌^◌, ◌<◌, ◌≤◌, Bool, true, false, not, cond, nat_lt, eqb, List, [], ◌∷◌, ◌++◌, length, drop, get_or, Option, Some, None, Result, Ok, inl, inr, refl, sym, ap, ◌∙◌, arith}
+use Rattle.std.specs.List.{range_with_len, enumerate_from, flat_map}
+use Rattle.std.specs.Int.{w32, from_le_bytes}
+use Rattle.std.proofs.lemmas.Bool.{cases_lt, le-ltb, lt-ltb, ltb-true, ltb-false, eqb-true, eqb-false, ne_eqb, eq-eqb}
 use Rattle.std.proofs.lemmas.Bool.Decides.{nat_tests}
 use Rattle.std.proofs.lemmas.List.{append-nil, get_or_past, nil_from_length}
 use Rattle.std.proofs.lemmas.Map.Steps.{length-le_from_distinct_below}
 use Rattle.std.proofs.lemmas.Nat.{from_le_bytes-to_le_bytes_4}
 use Rattle.bin_files.specs.Points.{u32_at}
-use Rattle.ann_defs.specs.Ordered.{Has}
 use Rattle.ann_defs.proofs.Members.{has_true}
 use Rattle.graph_files.specs.declared.header.Header.{Header}
 use Rattle.graph_files.specs.declared.fault.IndexFault.{IndexFault}
 use Rattle.graph_files.specs.Grammar.{◌>>=◌, unless, rows_at, layers_at, end_fault, header_at, body_at, index_in}
 use Rattle.graph_files.specs.Header.{header_in, is_read, form_fault, limit_fault}
 use Rattle.graph_files.specs.Index.{Contents, word, words, layer_ids, layer_rows, rows_bytes, layer_bytes, layers_bytes, header_words, text_of}
-use Rattle.graph_files.specs.WellFormed.{layers_fit, base_bound, base_of, greatest_degree, layer_words, words_of, IsWellFormed, IsWithinLimits}
-use Rattle.graph_files.proofs.LayerLists.{rows_enumerate, ids_enumerate}
+use Rattle.graph_files.specs.WellFormed.{layers_fit, base_bound, greatest_degree, layer_words}
+use Rattle.graph_files.proofs.LayerLists.{rows_enumerate}
 use Rattle.graph_files.proofs.IndexBytes.{text_is}
 use Rattle.graph_files.proofs.ReadTexts.{bind_ok, unless_ok, cond_ok, ok_same, AreBytes, word_there, rows_told, layers_told}
 use Rattle.graph_files.proofs.RowLoop.{member_is}
-use Rattle.graph_files.proofs.TextReads.{Holds, base_here, layers_here, behind}
+use Rattle.graph_files.proofs.TextReads.{Holds}
 use Rattle.graph_files.proofs.UpperLoop.{Entries}
 
 -- what a header without a broken rule says

@@ -1,7 +1,7 @@
 -- The text of a well-formed index within the limits is read as this index.
-use Rattle.std.proofs.Common.{◌≡◌, ℕ, zero, suc, ◌+◌, ◌-◌, ◌*◌, ◌^◌, ◌<◌, ◌≤◌, Bool, true, false, not, cond, nat_lt, eqb, List, [], ◌∷◌, ◌++◌, length, take, drop, Option, Some, None, Result, Ok, Err, refl, sym, ap, subst, ◌∙◌, arith, append_assoc, length-append}
+use Rattle.std.proofs.Common.{◌≡◌, ℕ, ◌+◌, ◌-◌, ◌^◌, ◌<◌, ◌≤◌, Bool, true, cond, nat_lt, eqb, List, [], ◌∷◌, ◌++◌, length, drop, Some, None, Ok, Err, refl, sym, ap, ◌∙◌, arith, length-append}
 use Rattle.std.specs.List.{range_with_len, enumerate_from, flat_map}
-use Rattle.std.proofs.lemmas.Bool.{le-ltb, eq-eqb, ltb-true}
+use Rattle.std.proofs.lemmas.Bool.{le-ltb, ltb-true}
 use Rattle.std.proofs.lemmas.List.{append-nil, length-map}
 use Rattle.std.proofs.lemmas.List.FromFn.{length-range_with_len}
 use Rattle.graph_files.specs.declared.header.Header.{Header}
@@ -12,7 +12,7 @@ use Rattle.graph_files.specs.Header.{header_in, is_read, form_fault, limit_fault
 use Rattle.graph_files.specs.Index.{Contents, words, layer_ids, layer_rows, rows_bytes, layer_bytes, layers_bytes, header_words, text_of}
 use Rattle.graph_files.specs.WellFormed.{base_bound, layer_words, IsWellFormed, IsWithinLimits}
 use Rattle.graph_files.proofs.IndexBytes.{text_is}
-use Rattle.graph_files.proofs.IndexLaws.{IsForm, IsSmall, none_of_form, none_of_small, layers_some, number, enumerate_is, bound_small, degree_small, holds_below}
+use Rattle.graph_files.proofs.IndexLaws.{IsForm, IsSmall, none_of_form, none_of_small, layers_some, number, enumerate_is, bound_small, holds_below}
 use Rattle.graph_files.proofs.ReadTexts.{ok_same}
 use Rattle.graph_files.proofs.TextReads.{base_here, layers_here, behind, length-words}
 use Rattle.graph_files.proofs.UpperLoop.{Entries}

@@ -1,9 +1,8 @@
 -- A further layer from its parts.
-use Rattle.std.proofs.Common.{◌≡◌, ℕ, ◌+◌, ◌*◌, ◌<◌, ◌≤◌, Bool, true, false, cond, List, [], ◌∷◌, length, Option, Some, None, Result, Ok, Err, refl, sym, ap, subst, ◌∙◌, arith}
+use Rattle.std.proofs.Common.{◌≡◌, ℕ, ◌+◌, ◌*◌, ◌≤◌, Bool, true, false, cond, List, [], Some, None, Result, Ok, refl, sym, ap, ◌∙◌, arith}
 use Rattle.std.proofs.lemmas.Bool.Decides.{nat_tests}
-use Rattle.ann_shelf.specs.declared.slip.Quantity.TheVariants.{Words}
 use Rattle.graph_files.specs.declared.fault.IndexFault.{IndexFault}
-use Rattle.graph_files.specs.declared.fault.IndexFault.TheVariants.{Malformed, TooLarge}
+use Rattle.graph_files.specs.declared.fault.IndexFault.TheVariants.{Malformed}
 use Rattle.graph_files.specs.declared.fault.IndexRule.TheVariants.{LayerIds}
 use Rattle.graph_files.specs.Grammar.{◌>>=◌, unless, word_at, members_fault, start_fault, layer_ids_at, rows_at, layer_at}
 use Rattle.ann_defs.specs.Graph.{has}

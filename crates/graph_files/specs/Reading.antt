@@ -1,5 +1,5 @@
 -- What a step of the reader gives, and what its window shows.
-use Rattle.std.specs.Prelude.{◌≡◌, ℕ, ◌+◌, ◌≤◌, ◌<◌, Bool, true, List, length, take, drop, Result, Ok, Err, slice_index}
+use Rattle.std.specs.Prelude.{◌≡◌, ℕ, ◌≤◌, ◌<◌, Bool, true, List, length, take, drop, Result, Ok, Err, slice_index}
 use Rattle.graph_files.specs.declared.fault.IndexFault.{IndexFault}
 use Rattle.graph_files.specs.declared.fault.IndexFault.TheVariants.{Read, Malformed, TooLarge, NoMemory}
 use Rattle.graph_files.specs.declared.window.Window.{Window}

@@ -4,7 +4,7 @@ ghost use Rattle.graph_files.specs.View.{contents};
 ghost use Rattle.graph_files.specs.WellFormed.{IsWellFormed};
 
 use super::*;
-use ann_shelf::{MemShelf, NoMemory};
+use ann_shelf::{MemShelf, NoMemory, Slip};
 use std::alloc::Global;
 use std::test::*;
 
@@ -89,6 +89,8 @@ fn four_points_are_written_in_68_bytes(rt: HostRuntime) -> Result<(), Fail> {
     );
     assert_eq!(rt; index.edges(), 5);
     assert_eq!(rt; index.longest(), 2);
+    let copy = index.base.copy(rt.alloc())?;
+    assert_eq!(rt; copy.edges(), 5);
     Ok(())
 }
 
@@ -129,6 +131,25 @@ fn an_index_is_read_and_written_back(rt: HostRuntime) -> Result<(), Fail> {
         shelf.bytes("copy").ok_or("no file")?,
         FOUR_POINTS.as_slice()
     );
+    Ok(())
+}
+
+#[test]
+fn a_failed_call_is_told(rt: HostRuntime) -> Result<(), Fail> {
+    let index = four_points(rt.alloc())?;
+    let mut shelf = MemShelf::new(rt.alloc());
+    shelf.fail_call(2)?;
+    assert_eq!(rt; write_index(&mut shelf, "index", &index), Err(Slip::Failed));
+    shelf.put("index", &FOUR_POINTS)?;
+    for read in 1..4u64 {
+        let calls = shelf.calls();
+        shelf.fail_call(calls.saturating_add(read))?;
+        assert_eq!(rt;
+            read_index(rt.alloc(), &mut shelf, "index").err(),
+            Some(IndexFault::Read),
+            "read {read}"
+        );
+    }
     Ok(())
 }
 

@@ -1,6 +1,6 @@
-use Rattle.std.proofs.Common.{◌≡◌, ◌≤◌, ◌∙◌, length, drop, arith, sym, length-drop}
+use Rattle.std.proofs.Common.{◌∙◌, arith, length-drop}
 use Rattle.ann_shelf.specs.Files.{bytes_of}
-use Rattle.bin_files.proofs.Pieces.{told_then, both_told}
+use Rattle.bin_files.proofs.Pieces.{told_then}
 use Rattle.graph_files.proofs.HeaderLaws.{shown_header, header_short, header_form, header_limit, header_sound}
 use Rattle.graph_files.proofs.Shown.{shown_all}
 use Rattle.graph_files.proofs.header.read_header.Goals as goal

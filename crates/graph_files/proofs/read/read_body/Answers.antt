@@ -1,4 +1,4 @@
-use Rattle.std.proofs.Common.{◌≡◌, ℕ, List, ◌+◌, ◌-◌, ◌*◌, ◌∷◌, ◌∙◌, [], ◌≤◌, length, map, sym, ap, subst, arith, Ok, None, Some, nat_lt}
+use Rattle.std.proofs.Common.{◌≡◌, ℕ, List, ◌+◌, ◌-◌, ◌∷◌, ◌∙◌, [], ◌≤◌, length, map, sym, ap, subst, Ok, nat_lt}
 use Rattle.std.specs.List.{range_with_len, enumerate_from, sum_by}
 use Rattle.std.proofs.lemmas.List.{length-map}
 use Rattle.graph_files.specs.Index.{Contents}

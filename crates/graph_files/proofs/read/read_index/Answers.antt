@@ -1,4 +1,4 @@
-use Rattle.std.proofs.Common.{◌≡◌, ◌∙◌, sym, Err}
+use Rattle.std.proofs.Common.{sym, Err}
 use Rattle.ann_shelf.specs.Files.{bytes_of}
 use Rattle.bin_files.proofs.Pieces.{told_then, both_told}
 use Rattle.graph_files.specs.Grammar.{index_in, body_at}

@@ -1,10 +1,10 @@
-use Rattle.std.proofs.Common.{◌≡◌, ℕ, List, ◌+◌, ◌*◌, ◌≤◌, ◌∙◌, [], length, sym, ap, subst, arith, Ok, None, Some, true}
+use Rattle.std.proofs.Common.{◌≡◌, ℕ, List, ◌+◌, ◌*◌, ◌≤◌, ◌∙◌, [], length, sym, ap, subst, arith, Ok, None, Some}
 use Rattle.ann_shelf.specs.Files.{bytes_of}
 use Rattle.bin_files.proofs.Pieces.{told_then, both_told}
 use Rattle.graph_files.specs.Grammar.{rows_at, members_fault, start_fault}
 use Rattle.ann_defs.specs.Graph.{has}
 use Rattle.graph_files.specs.Members.{holds, count_in, AreRows}
-use Rattle.graph_files.specs.Reading.{Fails, AreMembers}
+use Rattle.graph_files.specs.Reading.{Fails}
 use Rattle.graph_files.proofs.Told.{three_told}
 use Rattle.graph_files.specs.Index.{layer_ids}
 use Rattle.graph_files.specs.Layers.{Ascends, Layered}

@@ -1,4 +1,4 @@
-use Rattle.std.proofs.Common.{◌≡◌, ℕ, ◌+◌, ◌-◌, ◌*◌, ◌≤◌, [], map, length, nat_lt, IfSome}
+use Rattle.std.proofs.Common.{◌≡◌, ◌+◌, ◌-◌, ◌*◌, ◌≤◌, [], map, length, nat_lt, IfSome}
 use Rattle.std.specs.List.{sum_by}
 use Rattle.ann_shelf.specs.Faults.{NoneFell}
 use Rattle.ann_shelf.specs.Files.{bytes_of}

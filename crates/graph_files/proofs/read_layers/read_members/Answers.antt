@@ -1,4 +1,4 @@
-use Rattle.std.proofs.Common.{◌≡◌, ◌+◌, ◌*◌, ◌++◌, ◌∷◌, [], ◌<◌, ◌∙◌, length, take, set, arith, refl, sym, ap, subst, List, ℕ, None, Ok, ◌-◌, IfSome, rules, length-set}
+use Rattle.std.proofs.Common.{◌≡◌, ◌+◌, ◌*◌, ◌++◌, ◌∷◌, [], ◌<◌, ◌∙◌, length, take, set, arith, refl, ap, subst, None, Ok, ◌-◌, IfSome, length-set}
 use Rattle.std.proofs.lemmas.List.{take_all}
 use Rattle.ann_shelf.specs.Files.{bytes_of}
 use Rattle.bin_files.proofs.Pieces.{told_then, both_told}

@@ -1,4 +1,4 @@
-use Rattle.std.proofs.Common.{◌≡◌, ◌+◌, ◌∙◌, [], take, arith, sym, ap}
+use Rattle.std.proofs.Common.{◌+◌, ◌∙◌, [], arith, sym}
 use Rattle.ann_shelf.specs.Files.{bytes_of}
 use Rattle.bin_files.proofs.Pieces.{told_then, both_told}
 use Rattle.graph_files.specs.Grammar.{ids_at, row_at}

@@ -1,4 +1,4 @@
-use Rattle.std.proofs.Common.{◌≡◌, ◌+◌, ◌*◌, ◌++◌, ◌∷◌, [], ◌<◌, ◌≤◌, ◌∙◌, length, take, drop, set, get_or, arith, refl, sym, ap, subst, List, ℕ, Ok, Err, IfSome, rules, length-set}
+use Rattle.std.proofs.Common.{◌≡◌, ◌+◌, ◌*◌, ◌++◌, ◌∷◌, [], ◌<◌, ◌∙◌, length, take, drop, set, arith, sym, ap, subst, List, ℕ, Ok, IfSome, rules, length-set}
 use Rattle.std.proofs.lemmas.List.{length-take-le, take_all}
 use Rattle.ann_shelf.specs.Files.{bytes_of}
 use Rattle.graph_files.specs.Flat.{Flat}

@@ -1,4 +1,4 @@
-use Rattle.std.proofs.Common.{◌≡◌, ℕ, ◌+◌, ◌-◌, ◌*◌, ◌≤◌, take, drop, [], IfSome, length}
+use Rattle.std.proofs.Common.{◌≡◌, ◌+◌, ◌*◌, ◌≤◌, take, drop, [], IfSome, length}
 use Rattle.ann_shelf.specs.Faults.{NoneFell}
 use Rattle.ann_shelf.specs.Files.{bytes_of}
 use Rattle.graph_files.specs.Grammar.{rows_at}
