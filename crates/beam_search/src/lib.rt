@@ -6,6 +6,7 @@
 //! `candidates` makes the set that RobustPrune (DiskANN, Algorithm 2) starts from out of the visited ids.
 #![tactic(auto)]
 
+mod ahead;
 mod gather;
 mod greedy;
 mod lists;

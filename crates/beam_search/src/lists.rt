@@ -7,6 +7,7 @@ ghost use Rattle.ann_defs.specs.Ordered.{put, Rises};
 ghost use Rattle.ann_defs.specs.Nearness.{near_cmp, all_near};
 ghost use Rattle.beam_search.specs.Marks.{mark_of, AreSettled, OnlySeen};
 
+use crate::ahead::touch;
 use crate::marks::collect;
 use ann_defs::Near;
 use bin_files::Points;
@@ -133,6 +134,7 @@ fn offer_few(
     ensures marks { OnlySeen seen marks.old marks.new }
 {
     let count = collect(ids, marks, seen, todo);
+    touch(points, todo, count);
     offer_all(points, query, &todo[..count], list, len, limit)
 }
 

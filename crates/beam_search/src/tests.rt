@@ -4,6 +4,7 @@ ghost use Rattle.std.specs.List.{All};
 ghost use Rattle.ann_defs.specs.Graph.{IsGraph};
 ghost use Rattle.graph_files.specs.Flat.{row_at};
 
+use crate::ahead::touch;
 use crate::plain::walk_all;
 use crate::{Scratch, candidates, found, room, search, visited};
 use ann_defs::Near;
@@ -125,5 +126,24 @@ fn candidates_are_the_visited_and_the_row(rt: HostRuntime) -> Result<(), Fail> {
     room(&mut scratch)[0] = near(7, 7);
     let walk = [near(100, 0), near(0, 1), near(100, 2)];
     assert_eq!(rt; visited(&scratch), walk.as_slice());
+    Ok(())
+}
+
+// Some ids, after the first three of them were read ahead, where all points are so many.
+fn read_ahead(alloc: Global, count: usize) -> Result<Option<[u32; 4]>, NoMemory>
+    requires { (1 ≤ count) × (count ≤ 2048) }
+{
+    let points = Points::from_bytes(2048, vec![in alloc; 1u8; 2048 * count]?);
+    let mut ids = [3u32, 599, 5, 9];
+    if points.count() < 600 {
+        return Ok(None);
+    }
+    touch(&points, &mut ids, 3);
+    Ok(Some(ids))
+}
+
+#[test]
+fn reading_ahead_of_many_points_leaves_the_ids(rt: HostRuntime) -> Result<(), Fail> {
+    assert!(rt; read_ahead(rt.alloc(), 600)? == Some([3, 599, 5, 0]));
     Ok(())
 }
