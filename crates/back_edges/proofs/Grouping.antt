@@ -1,24 +1,24 @@
 -- Pairs in order.
-use Rattle.std.proofs.Common.{◌≡◌, ◌≢◌, ℕ, zero, suc, ◌+◌, ◌-◌, ◌<◌, ◌≤◌, Bool, true, false, cond, not, List, [], ◌∷◌, ◌++◌, map, take, drop, length, get_or, refl, sym, ap, ◌∙◌, subst, inl, inr, arith}
-use Rattle.std.specs.Prelude.{◌==◌, ◌&&◌, ◌||◌, ◌⊎◌, nat_eq, nat_le, nat_lt}
-use Rattle.std.specs.List.{filter, fold, All, AllWithin, Contains, dedup}
+use Rattle.std.proofs.Common.{◌≡◌, ◌≢◌, ℕ, zero, suc, ◌+◌, ◌-◌, ◌<◌, ◌≤◌, Bool, true, false, cond, List, [], ◌∷◌, ◌++◌, map, take, drop, length, get_or, refl, sym, ap, ◌∙◌, subst, inl, inr, arith}
+use Rattle.std.specs.Prelude.{◌==◌, ◌&&◌, ◌||◌, nat_eq, nat_le, nat_lt}
+use Rattle.std.specs.List.{filter, fold, All, AllWithin, dedup}
 use Rattle.std.specs.List.Sorted.{IsPermutation, IsSorted, IsStrictlySortedBy, IsNonDecreasingBy, IsPartitionPoint}
-use Rattle.std.specs.Cmp.{IsTotalOrder, eq_by_cmp_equiv, nat_cmp_is}
+use Rattle.std.specs.Cmp.{eq_by_cmp_equiv, nat_cmp_is}
 use Rattle.std.specs.declared.cmp.Ordering.{Ordering}
 use Rattle.std.specs.declared.cmp.Ordering.TheVariants.{Less, Equal, Greater}
-use Rattle.std.specs.Ordering.{nat_cmp, ordering_then, ordering_reverse, match_ordering, eq_by_cmp, is_eq}
+use Rattle.std.specs.Ordering.{nat_cmp, ordering_then, match_ordering, eq_by_cmp, is_eq}
 use Rattle.std.proofs.lemmas.Cmp.{on_total, then_total, nat_cmp_total, ranked}
 use Rattle.std.proofs.lemmas.Map.Lookups.{exact_pairs, exact_unsigned}
-use Rattle.std.proofs.lemmas.Bool.{eqb-true, eqb-false, eq-eqb, ne_eqb, ltb-true, ltb-false, leb-true, leb-false}
+use Rattle.std.proofs.lemmas.Bool.{eq-eqb, ne_eqb, ltb-true, ltb-false, leb-true, leb-false}
 use Rattle.std.proofs.lemmas.Grind.{fold-append}
-use Rattle.std.proofs.lemmas.List.{get_or-take, get_or-drop, take-append-drop, length-take, length-drop, map_more, append-nil, take_more, length-take-le, get_or_default}
+use Rattle.std.proofs.lemmas.List.{get_or-take, get_or-drop, take-append-drop, length-drop, map_more, append-nil, length-take-le, get_or_default}
 use Rattle.std.proofs.lemmas.List.Elements.{filter-append, All-head, All-tail, All-weaker, All-take, Contains-get_or}
 use Rattle.std.proofs.lemmas.List.Sorted.{Contains-permutation, IsPermutation-sym}
 use Rattle.std.proofs.lemmas.List.Kept.{IsStrictlySortedBy-dedup, Contains-dedup, Contains-from_dedup}
 use Rattle.ann_defs.specs.Ordered.{put, ordered}
 use Rattle.ann_defs.specs.Graph.{has}
-use Rattle.ann_defs.specs.Ordered.{Has, Rises, IsBelow}
-use Rattle.ann_defs.proofs.Order.{IsExactOrder, Rises-fold_put, same_rising, ordered_is, put_has, has_put_old, has_put_itself, Rises-put, fold_has, has_fold_new, has-map, Contains-from_has, has_from_Contains, below_has}
+use Rattle.ann_defs.specs.Ordered.{Has, Rises}
+use Rattle.ann_defs.proofs.Order.{IsExactOrder, Rises-fold_put, same_rising, ordered_is, put_has, has_put_old, Rises-put, fold_has, has_fold_new, has-map, Contains-from_has, has_from_Contains, below_has}
 use Rattle.back_edges.specs.declared.pair.Pair.{Pair}
 use Rattle.back_edges.specs.Proposing.{pair_cmp, targets_of, proposed_to}
 use Rattle.ann_defs.proofs.Members.{has-mapped}

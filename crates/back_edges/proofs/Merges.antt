@@ -1,21 +1,25 @@
 -- The candidates of a merge.
-use Rattle.std.proofs.Common.{◌≡◌, ◌≢◌, ℕ, ◌+◌, ◌<◌, ◌≤◌, Bool, true, false, cond, not, List, [], ◌∷◌, ◌++◌, map, length, refl, sym, ap, ◌∙◌, subst, inl, inr, arith}
-use Rattle.std.specs.Prelude.{◌==◌, nat_eq, nat_le}
+use Rattle.std.proofs.Common.{◌≡◌, ◌≢◌, ℕ, ◌+◌, ◌-◌, ◌<◌, ◌≤◌, true, cond, not, List, [], ◌∷◌, ◌++◌, length, drop, refl, sym, ap, ◌∙◌, arith}
+use Rattle.std.specs.Prelude.{◌==◌, nat_eq}
 use Rattle.std.specs.List.{filter, All, IsDistinct}
 use Rattle.std.proofs.lemmas.Bool.{ne_eqb, le-leb, lt-leb}
-use Rattle.std.proofs.lemmas.List.{length-map, map-append}
+use Rattle.std.proofs.lemmas.List.{drop-drop, length-map, map-append}
 use Rattle.std.proofs.lemmas.List.Elements.{All-append, All-filter, All-map, All-head, All-tail}
 use Rattle.ann_defs.specs.declared.near.Near.{Near}
 use Rattle.ann_defs.specs.Distance.{point}
 use Rattle.ann_defs.specs.Nearness.{near_of, all_near, ids_of}
 use Rattle.ann_defs.specs.RobustPrune.{pruned_row}
 use Rattle.ann_defs.specs.Graph.{has, without}
-use Rattle.ann_defs.specs.Ordered.{Has}
-use Rattle.ann_defs.proofs.Order.{has-map, All_has}
 use Rattle.robust_prune.specs.Candidates.{AreCandidates}
 use Rattle.ann_defs.specs.BatchInsert.{merge_of}
 use Rattle.ann_defs.proofs.Members.{distinct_once}
 use Rattle.ann_defs.proofs.GoodRows.{added_to, added_once}
+
+-- lists that agree behind a place agree behind a later one
+pub drop_on : (xs ys : List ℕ) (k r : ℕ) → k ≤ r → drop k xs ≡ drop k ys → drop r xs ≡ drop r ys
+drop_on xs ys k r h e =
+    let n : k + (r - k) ≡ r = omega arith in
+    sym (ap (λ m. drop m xs) n) ∙ sym (drop-drop (r - k) k xs) ∙ ap (λ zs. drop (r - k) zs) e ∙ drop-drop (r - k) k ys ∙ ap (λ m. drop m ys) n
 
 pub ids-near : (points : List (List ℕ)) (q : List ℕ) (xs : List ℕ) → ids_of (all_near points q xs) ≡ xs
 ids-near points q [] = refl

@@ -1,5 +1,5 @@
 //! A row joined with its sources.
-ghost use Rattle.std.specs.Prelude.{◌≡◌, ◌≢◌, ◌+◌, ◌<◌, ◌≤◌, ◌++◌, IsTrue, not, length, take, map, nat_eq};
+ghost use Rattle.std.specs.Prelude.{◌≡◌, ◌≢◌, ◌+◌, ◌<◌, ◌≤◌, ◌++◌, IsTrue, not, length, take, drop, map, nat_eq};
 ghost use Rattle.std.specs.List.{All, IsDistinct, filter};
 ghost use Rattle.ann_defs.specs.Distance.{point};
 ghost use Rattle.ann_defs.specs.Nearness.{near_of, all_near, ids_of};
@@ -18,11 +18,11 @@ use robust_prune::prune;
 ///
 /// Where row and sources together are at most `degree` ids, it is the row as it stands, followed by the sources that
 /// aren't in it, in their order. Else all of them are pruned for the target (DiskANN, Algorithm 2, as in Algorithm 3,
-/// line 8), nearest first. `room` holds the candidates with their squared distances meanwhile; what it and the rest of
-/// `out` hold afterwards is not said. It takes no memory and refuses nothing, and where row and sources are short
-/// enough, it takes no distance.
+/// line 8), nearest first. `room` holds the candidates with their squared distances meanwhile; what it holds afterwards
+/// is not said. It takes no memory and refuses nothing, and where row and sources are short enough, it takes no
+/// distance.
 ///
-/// The answer is the length of the row, which stands at the front of `out`.
+/// The answer is the length of the row, which stands at the front of `out`. Behind the row `out` stays as it was.
 pub fn merged_row<R: Rows>(
     points: &Points,
     rows: &R,
@@ -45,6 +45,7 @@ pub fn merged_row<R: Rows>(
     requires out { degree ≤ length out.old }
     ensures row { take result out.new ≡
         merge_of points.now.vectors alpha.num alpha.den degree target (R.row_of rows.now target) (sources_in sources.now) }
+    ensures rest { drop result out.new ≡ drop result out.old }
     ensures bound { result ≤ degree }
 {
     let row = rows.row(target);
@@ -65,6 +66,7 @@ pub fn merged_row<R: Rows>(
 fn join_row(row: &[u32], sources: &[Pair], out: &mut [u32]) -> usize
     requires { length row.now + length sources.now ≤ length out.old }
     ensures list { take result out.new ≡ row.now ++ filter (λ s. not (has row.now s)) (sources_in sources.now) }
+    ensures rest { drop result out.new ≡ drop result out.old }
     ensures bound { result ≤ length row.now + length sources.now }
 {
     let from = copy_row(row, out);
@@ -75,6 +77,7 @@ fn join_row(row: &[u32], sources: &[Pair], out: &mut [u32]) -> usize
 fn copy_row(row: &[u32], out: &mut [u32]) -> usize
     requires { length row.now ≤ length out.old }
     ensures list { take result out.new ≡ row.now }
+    ensures rest { drop result out.new ≡ drop result out.old }
     ensures len { result ≡ length row.now }
 {
     let mut len = 0;
@@ -89,6 +92,8 @@ fn copy_row(row: &[u32], out: &mut [u32]) -> usize
 fn join_sources(row: &[u32], sources: &[Pair], out: &mut [u32], from: usize) -> usize
     requires { from + length sources.now ≤ length out.old }
     ensures list { take result out.new ≡ take from out.old ++ filter (λ s. not (has row.now s)) (sources_in sources.now) }
+    ensures rest { drop result out.new ≡ drop result out.old }
+    ensures least { from ≤ result }
     ensures bound { result ≤ from + length sources.now }
 {
     let mut len = from;
@@ -166,7 +171,8 @@ fn lay_sources(
 // Copies the ids to the front of `out`.
 fn copy_ids(nears: &[Near], out: &mut [u32])
     requires { length nears.now ≤ length out.old }
-    ensures { take (length nears.now) out.new ≡ ids_of nears.now }
+    ensures list { take (length nears.now) out.new ≡ ids_of nears.now }
+    ensures rest { drop (length nears.now) out.new ≡ drop (length nears.now) out.old }
 {
     for (i, x) in nears.iter().enumerate() {
         out[i] = x.id;

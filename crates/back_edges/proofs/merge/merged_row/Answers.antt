@@ -1,5 +1,5 @@
-use Rattle.std.proofs.Common.{◌≡◌, ◌≢◌, ◌<◌, ◌≤◌, ◌++◌, ◌∙◌, ap, sym, subst, length, take, arith, List, ℕ, not, rules}
-use Rattle.std.specs.List.{All, filter}
+use Rattle.std.proofs.Common.{◌≡◌, ◌≢◌, ◌<◌, ◌≤◌, ◌++◌, ◌∙◌, ap, sym, subst, length, take, drop, arith, List, ℕ, not, rules}
+use Rattle.std.specs.List.{filter}
 use Rattle.std.proofs.lemmas.List.Elements.{All-map}
 use Rattle.ann_defs.specs.declared.near.Near.{Near}
 use Rattle.ann_defs.specs.Distance.{point}
@@ -38,10 +38,15 @@ returns-then-len-degree-clause-row g c =
     let many = same_length points t row sources _ all in
     let few : length (added_to row sources) ≤ c.args.degree = omega (arith, many, count) in
     sym (ap (λ k. take k c.copy_ids.new.out) count)
-    ∙ c.copy_ids.ensures
+    ∙ c.copy_ids.ensures.list
     ∙ ap ids_of all
     ∙ ids-near points (point points t) (added_to row sources)
     ∙ merge_room points t row sources c.args.alpha.num c.args.alpha.den c.args.degree few
+
+pub returns-then-len-degree-clause-rest : goal.returns-then-len-degree-clause-rest
+returns-then-len-degree-clause-rest g c =
+    let count : length (take c.lay_sources-len.result c.lay_sources-len.new.room) ≡ c.lay_sources-len.result = search rules in
+    sym (ap (λ k. drop k c.copy_ids.new.out) count) ∙ c.copy_ids.ensures.rest ∙ ap (λ k. drop k c.args.out.now) count
 
 pub returns-else-len-degree-clause-row : goal.returns-else-len-degree-clause-row
 returns-else-len-degree-clause-row g c =

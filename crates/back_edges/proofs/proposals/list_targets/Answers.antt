@@ -1,5 +1,4 @@
-use Rattle.std.proofs.Common.{◌≡◌, ◌≢◌, ◌∙◌, ◌≤◌, ◌<◌, ◌+◌, ◌-◌, ◌++◌, ◌∷◌, [], ap, sym, refl, rules, arith, length, List, get_or, take, ℕ}
-use Rattle.std.proofs.lemmas.Grind.{common_steps}
+use Rattle.std.proofs.Common.{◌≡◌, ◌∙◌, ◌<◌, ◌+◌, ◌++◌, ◌∷◌, [], ap, sym, arith, length, List, get_or, take, ℕ}
 use Rattle.std.proofs.lemmas.List.{length_push}
 use Rattle.back_edges.specs.declared.pair.Pair.{Pair}
 use Rattle.back_edges.specs.Proposing.{targets_of}

@@ -1,4 +1,4 @@
-use Rattle.std.proofs.Common.{◌≡◌, ◌<◌, ◌≤◌, arith, length, get_or, ℕ, Result, Err, sym}
+use Rattle.std.proofs.Common.{◌≡◌, ◌<◌, ◌≤◌, arith, get_or, ℕ, Err}
 use Rattle.std.proofs.lemmas.List.Sorted.{searched}
 use Rattle.back_edges.proofs.Grouping.{rising_numbers, has_none}
 use Rattle.back_edges.proofs.proposals.place_in.Goals as goal

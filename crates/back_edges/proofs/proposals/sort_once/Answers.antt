@@ -1,6 +1,5 @@
-use Rattle.std.proofs.Common.{◌≡◌, ◌∙◌, ap, sym, refl, rules}
+use Rattle.std.proofs.Common.{◌∙◌}
 use Rattle.std.proofs.lemmas.List.Filters.{dedup_is}
-use Rattle.back_edges.specs.declared.pair.Pair.{Pair}
 use Rattle.back_edges.specs.Proposing.{pair_cmp}
 use Rattle.back_edges.proofs.Grouping.{sorted_once, pair_order, pair_ties}
 use Rattle.back_edges.proofs.proposals.sort_once.Goals as goal

@@ -1,8 +1,7 @@
-use Rattle.std.proofs.Common.{◌≡◌, ◌∙◌, ◌≤◌, ap, sym, subst, refl, rules, arith, length, List}
+use Rattle.std.proofs.Common.{◌∙◌, ◌≤◌, ap, sym, subst, arith, length, List}
 use Rattle.std.specs.List.Sorted.{IsNonDecreasingBy}
-use Rattle.ann_defs.specs.Ordered.{ordered}
 use Rattle.back_edges.specs.declared.pair.Pair.{Pair}
-use Rattle.back_edges.specs.Proposing.{pair_cmp, targets_of}
+use Rattle.back_edges.specs.Proposing.{targets_of}
 use Rattle.back_edges.proofs.Grouping.{ordered_targets}
 use Rattle.back_edges.proofs.proposals.Proposals.group.Goals as goal
 

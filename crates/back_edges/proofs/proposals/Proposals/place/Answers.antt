@@ -1,4 +1,4 @@
-use Rattle.std.proofs.Common.{◌≡◌, ◌∙◌, ap, sym, subst, List, ℕ}
+use Rattle.std.proofs.Common.{◌∙◌, ap, sym, subst}
 use Rattle.std.specs.Ordering.{nat_cmp}
 use Rattle.ann_defs.specs.Ordered.{Rises}
 use Rattle.back_edges.specs.Proposing.{Proposed}
