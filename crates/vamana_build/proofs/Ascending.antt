@@ -1,5 +1,5 @@
 -- Ids in ascending order.
-use Rattle.std.proofs.Common.{◌≡◌, ℕ, zero, suc, ◌+◌, ◌<◌, ◌≤◌, Bool, true, false, cond, List, [], ◌∷◌, length, refl, sym, inl, inr, arith}
+use Rattle.std.proofs.Common.{◌≡◌, ℕ, zero, suc, ◌+◌, ◌<◌, ◌≤◌, Bool, true, false, cond, List, [], ◌∷◌, length, get_or, refl, sym, inl, inr, arith}
 use Rattle.std.specs.Prelude.{◌==◌, ◌⊎◌}
 use Rattle.std.specs.List.{filter, All, range_with_len}
 use Rattle.std.specs.declared.cmp.Ordering.{Ordering}
@@ -7,9 +7,11 @@ use Rattle.std.specs.declared.cmp.Ordering.TheVariants.{Less}
 use Rattle.std.specs.Ordering.{nat_cmp}
 use Rattle.std.specs.Cmp.{nat_cmp_is}
 use Rattle.std.proofs.lemmas.Bool.{eqb-true, eqb-false}
+use Rattle.std.proofs.lemmas.Cmp.{ranked}
+use Rattle.std.proofs.lemmas.List.Elements.{Contains-get_or}
 use Rattle.ann_defs.specs.Graph.{has}
 use Rattle.ann_defs.specs.Ordered.{Has, Rises, IsBelow, ordered}
-use Rattle.ann_defs.proofs.Order.{Rises-fold_put, same_rising, fold_has, has_fold_new, All_has}
+use Rattle.ann_defs.proofs.Order.{Rises-fold_put, same_rising, fold_has, has_fold_new, All_has, below_has, has_from_Contains}
 use Rattle.ann_defs.proofs.Members.{all_from_has, has_true, true_has}
 use Rattle.back_edges.proofs.Grouping.{nat_order}
 
@@ -45,6 +47,15 @@ ordered_has xs u h = elim (fold_has nat_cmp [] xs u h) as (λ _. Has xs u) [ inl
 
 pub has_ordered : (xs : List ℕ) (u : ℕ) → Has xs u → Has (ordered nat_cmp xs) u
 has_ordered xs u h = has_fold_new nat_cmp nat_order.exact [] xs u h
+
+-- later ones are greater
+pub rises_less : (xs : List ℕ) → Rises nat_cmp xs → (i j : ℕ) → i < j → j < length xs → get_or xs i 0 < get_or xs j 0
+rises_less [] up i j h within = absurd (omega arith)
+rises_less (x ∷ xs) up zero zero h within = absurd (omega arith)
+rises_less (x ∷ xs) up zero (suc j) h within =
+    ranked x (get_or xs j 0) Less (sym (below_has nat_cmp nat_order x (get_or xs j 0) xs up.0 (has_from_Contains xs (get_or xs j 0) (Contains-get_or xs j 0 (omega arith)))))
+rises_less (x ∷ xs) up (suc i) zero h within = absurd (omega arith)
+rises_less (x ∷ xs) up (suc i) (suc j) h within = rises_less xs up.1 i j (omega arith) (omega arith)
 
 -- in order, it stays as it is
 pub ordered_again : (xs : List ℕ) → ordered nat_cmp xs ≡ ordered nat_cmp (ordered nat_cmp xs)

@@ -1,24 +1,21 @@
 -- The rows that differ, and what putting them gives.
-use Rattle.std.proofs.Common.{◌≡◌, ℕ, zero, suc, ◌+◌, ◌<◌, ◌≤◌, Bool, true, false, cond, not, List, [], ◌∷◌, ◌++◌, map, drop, set, length, refl, sym, ap, ◌∙◌, subst, inl, inr, arith, append_assoc, length-append}
+use Rattle.std.proofs.Common.{◌≡◌, ℕ, zero, suc, ◌+◌, ◌-◌, ◌<◌, ◌≤◌, Bool, true, false, cond, not, List, [], ◌∷◌, ◌++◌, map, drop, set, length, refl, sym, ap, ◌∙◌, subst, inl, inr, arith, append_assoc, length-append}
 use Rattle.std.specs.Prelude.{nat_eq, nat_lt, nat_le}
 use lib.Pointwise.{pointwise}
 use Rattle.std.specs.List.{filter, range_with_len}
-use Rattle.std.specs.Ordering.{nat_cmp}
-use Rattle.std.proofs.lemmas.Bool.{not-false, lt-ltb, le-leb, true≢false}
+use Rattle.std.proofs.lemmas.Bool.{not-false, lt-ltb, le-leb}
 use Rattle.std.proofs.lemmas.Bool.Decides.{Decides-eqb}
 use Rattle.std.proofs.lemmas.Grind.{fold-append}
 use Rattle.std.proofs.lemmas.List.{map-append, drop_more, set_at, append-nil}
 use Rattle.std.proofs.lemmas.List.Elements.{filter-append}
 use Rattle.std.proofs.lemmas.List.FromFn.{length-map-range_with_len}
 use Rattle.std.proofs.lemmas.Slice.Eq.{slice_eq-Decides}
-use Rattle.ann_defs.specs.Graph.{has, row_in}
-use Rattle.ann_defs.specs.Ordered.{Has, ordered}
-use Rattle.ann_defs.proofs.Order.{same_rising, has-map}
-use Rattle.ann_defs.proofs.Members.{filter_has, has-filter, has_true, range_has, both_and}
+use Rattle.ann_defs.specs.Graph.{row_in}
+use Rattle.ann_defs.specs.Ordered.{Has}
+use Rattle.ann_defs.proofs.Order.{has-map}
+use Rattle.ann_defs.proofs.Members.{filter_has, both_and}
 use Rattle.graph_files.specs.Flat.{Flat}
-use Rattle.back_edges.proofs.Grouping.{nat_order}
 use Rattle.vamana_build.specs.Changes.{differing, put, put_all}
-use Rattle.vamana_build.proofs.Ascending.{Rises-filter, range_rises, in_range_has, ordered_rises, ordered_has, has_ordered}
 
 pub range_more : (a n : ℕ) → range_with_len a (n + 1) ≡ range_with_len a n ++ (a + n) ∷ []
 range_more a zero = let e : a ≡ a + 0 = omega arith in λ i. e i ∷ []
@@ -53,6 +50,9 @@ module _ (old new : ℕ → List ℕ) where
   pub differing_push : (us : List ℕ) (u : ℕ) → differing old new (us ++ u ∷ []) ≡ differing old new us ++ cond (differs u) ((u, new u) ∷ []) []
   differing_push us u = differing-append us (u ∷ []) ∙ ap (λ es. differing old new us ++ es) (last_entry u)
 
+  pub differing_more : (u : ℕ) → differing old new (range_with_len 0 (u + 1)) ≡ differing old new (range_with_len 0 u) ++ cond (differs u) ((u, new u) ∷ []) []
+  differing_more u = let z : 0 + u ≡ u = omega arith in ap (differing old new) (range_more 0 u ∙ ap (λ v. range_with_len 0 u ++ v ∷ []) z) ∙ differing_push (range_with_len 0 u) u
+
   -- each entry has its id's new row
   pub entry_from : (us : List ℕ) (e : ℕ × List ℕ) → Has (differing old new us) e → Has us e.0 × (e.1 ≡ new e.0)
   entry_from us e h =
@@ -62,29 +62,22 @@ module _ (old new : ℕ → List ℕ) where
       (subst (Has us) id (filter_has differs us from.0 from.1).0, sym row ∙ ap new id)
 
   -- ids whose rows stay don't count
-  module _ (ids : List ℕ) (n : ℕ) (inside : (u : ℕ) → Has ids u → u < n) (others : (u : ℕ) → u < n → has ids u ≡ false → new u ≡ old u) where
-    there : (u : ℕ) → u < n → differs u ≡ true → Has ids u
-    there u below h =
-        elim (has ids u) as (λ b. has ids u ≡ b → Has ids u) [
-          | true ↦ λ e. has_true ids u e
-          | false ↦ λ e. absurd (true≢false (sym h ∙ row_same u (others u below e)))
-        ] refl
+  pub differing_on : (from d : ℕ) → ((u : ℕ) → from ≤ u → u < from + d → new u ≡ old u) → differing old new (range_with_len 0 (from + d)) ≡ differing old new (range_with_len 0 from)
+  differing_on from zero same = let e : from + 0 ≡ from = omega arith in ap (λ k. differing old new (range_with_len 0 k)) e
+  differing_on from (suc d) same =
+      let u = from + d in
+      let e : from + suc d ≡ u + 1 = omega arith in
+      let stays : differs u ≡ false = row_same u (same u (omega arith) (omega arith)) in
+      ap (λ k. differing old new (range_with_len 0 k)) e
+      ∙ differing_more u
+      ∙ ap (λ b. differing old new (range_with_len 0 u) ++ cond b ((u, new u) ∷ []) []) stays
+      ∙ append-nil (differing old new (range_with_len 0 u))
+      ∙ differing_on from d (λ v low high. same v low (omega arith))
 
-    pub differing_among : differing old new (ordered nat_cmp ids) ≡ differing old new (range_with_len 0 n)
-    differing_among =
-        ap (map (entry new))
-        (same_rising nat_cmp nat_order (filter differs (ordered nat_cmp ids)) (filter differs (range_with_len 0 n))
-        (Rises-filter nat_cmp differs (ordered nat_cmp ids) (ordered_rises ids))
-        (Rises-filter nat_cmp differs (range_with_len 0 n) (range_rises 0 n))
-        (λ u h.
-        let kept = filter_has differs (ordered nat_cmp ids) u h in
-        let below = inside u (ordered_has ids u kept.0) in
-        has-filter differs (range_with_len 0 n) u kept.1 (in_range_has 0 n u (omega arith) (omega arith)))
-        (λ u h.
-        let kept = filter_has differs (range_with_len 0 n) u h in
-        let within = range_has 0 n u kept.0 in
-        let below : u < n = omega (arith, within.1) in
-        has-filter differs (ordered nat_cmp ids) u kept.1 (has_ordered ids u (there u below kept.1))))
+  pub differing_to : (from to : ℕ) → from ≤ to → ((u : ℕ) → from ≤ u → u < to → new u ≡ old u) → differing old new (range_with_len 0 to) ≡ differing old new (range_with_len 0 from)
+  differing_to from to h same =
+      let e : from + (to - from) ≡ to = omega arith in
+      ap (λ k. differing old new (range_with_len 0 k)) (sym e) ∙ differing_on from (to - from) (λ u low high. same u low (omega arith))
 
 -- rows that are the same give the same entries
 pub differing_same : (old new other : ℕ → List ℕ) (ids : List ℕ) → ((u : ℕ) → Has ids u → new u ≡ other u) → differing old new ids ≡ differing old other ids
@@ -122,12 +115,11 @@ module _ (olds : List (List ℕ)) (new : ℕ → List ℕ) (width : ℕ) (short 
       let old = row_in olds in
       let before = map new (range_with_len 0 k) in
       let n : suc k ≡ k + 1 = omega arith in
-      let z : 0 + k ≡ k = omega arith in
       let last : List (ℕ × List ℕ) = cond (differs old new k) ((k, new k) ∷ []) [] in
       let rest : drop k olds ≡ old k ∷ drop (k + 1) olds = drop_more olds k [] (omega arith) in
       let long : length before ≡ k = length-map-range_with_len new 0 k in
       let onto : map new (range_with_len 0 (k + 1)) ++ drop (k + 1) olds ≡ before ++ new k ∷ drop (k + 1) olds = ap (λ (xs : List (List ℕ)). xs ++ drop (k + 1) olds) (rows_map new k) ∙ append_assoc before (new k ∷ []) (drop (k + 1) olds) in
-      let more : differing old new (range_with_len 0 (k + 1)) ≡ differing old new (range_with_len 0 k) ++ last = ap (differing old new) (range_more 0 k ∙ ap (λ v. range_with_len 0 k ++ v ∷ []) z) ∙ differing_push old new (range_with_len 0 k) k in
+      let more : differing old new (range_with_len 0 (k + 1)) ≡ differing old new (range_with_len 0 k) ++ last = differing_more old new k in
       subst (λ m. put_all (flat_of width olds) (differing old new (range_with_len 0 m)) ≡ flat_of width (map new (range_with_len 0 m) ++ drop m olds)) (sym n)
       (ap (put_all (flat_of width olds)) more
       ∙ fold-append put (flat_of width olds) (differing old new (range_with_len 0 k)) last

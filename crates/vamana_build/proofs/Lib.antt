@@ -4,6 +4,7 @@ pub mod Padding
 pub mod Sources
 pub mod MergeFacts
 pub mod Plans
-pub mod Touched
+pub mod UpTo
+pub mod Merging
 pub mod Stepping
 pub mod NextBatch

@@ -12,7 +12,7 @@ use Rattle.vamana_build.specs.declared.settings.VamanaSettings.{VamanaSettings}
 use Rattle.vamana_build.specs.Builds.{batch_cap, batches_of, start_of}
 use Rattle.vamana_build.specs.Building.{next_of, IsBuilt}
 use Rattle.vamana_build.specs.Changes.{Change, change_at, put_all}
-use Rattle.vamana_build.specs.Serving.{IsServing}
+use Rattle.beam_search.specs.Serving.{Serves}
 use Rattle.vamana_build.proofs.Stepping.{change_leads}
 
 module _ (points : List (List ℕ)) (s : VamanaSettings) where
@@ -72,7 +72,7 @@ module _ (points : List (List ℕ)) (s : VamanaSettings) where
       (told.0, told.1, here.fits)
 
   -- one batch more
-  pub stepped : (k : ℕ) (graph graph' : Flat) (batches batches' : Progress) (next next' : Option (ℕ × ℕ)) (posts posts' : List (Post Room)) (b : ℕ × ℕ) (change : Change) → start_of points s < n → IsBuilt points s k graph batches next posts → next ≡ Some b → change ≡ change_at points s k → graph' ≡ put_all graph change.rows → IsNext (k + 1) batches batches' next' → AllServe (IsServing n s.beam) posts' → length posts' ≡ length posts → IsBuilt points s (k + 1) graph' batches' next' posts'
+  pub stepped : (k : ℕ) (graph graph' : Flat) (batches batches' : Progress) (next next' : Option (ℕ × ℕ)) (posts posts' : List (Post Room)) (b : ℕ × ℕ) (change : Change) → start_of points s < n → IsBuilt points s k graph batches next posts → next ≡ Some b → change ≡ change_at points s k → graph' ≡ put_all graph change.rows → IsNext (k + 1) batches batches' next' → AllServe (Serves n s.beam) posts' → length posts' ≡ length posts → IsBuilt points s (k + 1) graph' batches' next' posts'
   stepped k graph graph' batches batches' next next' posts posts' b change starts built is c g more serve count =
       let less = some_left k next b built.next_is is in
       let done : min (k + 1) total ≡ k + 1 = omega (arith, less) in

@@ -8,7 +8,7 @@ use Rattle.prefix_batches.specs.Progress.{Progress}
 use Rattle.vamana_build.specs.declared.settings.VamanaSettings.{VamanaSettings}
 use Rattle.beam_search.specs.Room.{Room}
 use Rattle.vamana_build.specs.Builds.{batch_cap, batches_of, graph_at}
-use Rattle.vamana_build.specs.Serving.{IsServing}
+use Rattle.beam_search.specs.Serving.{Serves}
 
 -- of what the index is built, how many batches are in, and for how many workers there are posts
 pub record Building : Type 0 where
@@ -32,5 +32,5 @@ pub record IsBuilt (points : List (List ℕ)) (s : VamanaSettings) (k : ℕ) (gr
   pub batches_are : batches ≡ record { n = length points; cap = batch_cap points s; done = min (k + 1) (batches_of points s) }
   pub next_is : next ≡ next_of points s k
   pub next_fits : IfSome next (λ b. (b.0 < b.1) × (b.1 ≤ length points))
-  pub serve : AllServe (IsServing (length points) s.beam) posts
+  pub serve : AllServe (Serves (length points) s.beam) posts
   pub workers : (1 ≤ length posts) × (length posts ≤ 64)

@@ -1,7 +1,6 @@
 pub mod Builds
 pub mod Padded
 pub mod Proposed
-pub mod Serving
 pub mod Wanted
 pub mod Changes
 pub mod ChangedRows

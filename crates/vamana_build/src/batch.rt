@@ -8,7 +8,7 @@ ghost use Rattle.steal_pool.specs.Work.{AllServe};
 ghost use Rattle.vamana_build.specs.Builds.{build_of};
 ghost use Rattle.vamana_build.specs.Changes.{differing};
 ghost use Rattle.vamana_build.specs.ChangedRows.{rows_in};
-ghost use Rattle.vamana_build.specs.Serving.{IsServing};
+ghost use Rattle.beam_search.specs.Serving.{Serves};
 ghost use Rattle.vamana_build.specs.Wanted.{merged_blocks};
 
 use crate::change::ChangedRow;
@@ -33,9 +33,9 @@ fn merge_all<R: Threads + Sync, P: Rounds, G: Gate + Sync>(
     gate: &G,
 ) -> Result<Blocks, NoMemory>
     requires posts { length posts.old ≡ P.count pool.old }
-    requires serve { AllServe (IsServing (length work.now.overlay.now.rows.now.plan.now.points.now.vectors) work.now.overlay.now.rows.now.plan.now.settings.beam) posts.old }
+    requires serve { AllServe (Serves (length work.now.overlay.now.rows.now.plan.now.points.now.vectors) work.now.overlay.now.rows.now.plan.now.settings.beam) posts.old }
     ensures blocks { IfOk result (λ y. y ≡ merged_blocks (build_of work.now.overlay.now.rows.now.plan.now.points.now.vectors work.now.overlay.now.rows.now.plan.now.settings) work.now.overlay.now.rows.now.graph.now.rows work.now.overlay.now.rows.now.batch.now (targets_of work.now.proposals.now.pairs)) }
-    ensures serve { AllServe (IsServing (length work.now.overlay.now.rows.now.plan.now.points.now.vectors) work.now.overlay.now.rows.now.plan.now.settings.beam) posts.new }
+    ensures serve { AllServe (Serves (length work.now.overlay.now.rows.now.plan.now.points.now.vectors) work.now.overlay.now.rows.now.plan.now.settings.beam) posts.new }
     ensures workers { P.count pool.new ≡ P.count pool.old }
 {
     if work.proposals.targets() == 0 {
@@ -55,10 +55,10 @@ pub(crate) fn rows_changed<R: Threads + Sync, P: Rounds, G: Gate + Sync>(
     gate: &G,
 ) -> Result<Vec<ChangedRow>, NoMemory>
     requires posts { length posts.old ≡ P.count pool.old }
-    requires serve { AllServe (IsServing (length rows.now.plan.now.points.now.vectors) rows.now.plan.now.settings.beam) posts.old }
+    requires serve { AllServe (Serves (length rows.now.plan.now.points.now.vectors) rows.now.plan.now.settings.beam) posts.old }
     requires some { 0 < length rows.now.batch.now }
     ensures rows { IfOk result (λ v. rows_in v.items ≡ differing (row_in rows.now.graph.now.rows) (last_row_of (build_of rows.now.plan.now.points.now.vectors rows.now.plan.now.settings) rows.now.graph.now.rows rows.now.batch.now) (range_with_len 0 (length rows.now.plan.now.points.now.vectors))) }
-    ensures serve { AllServe (IsServing (length rows.now.plan.now.points.now.vectors) rows.now.plan.now.settings.beam) posts.new }
+    ensures serve { AllServe (Serves (length rows.now.plan.now.points.now.vectors) rows.now.plan.now.settings.beam) posts.new }
     ensures workers { P.count pool.new ≡ P.count pool.old }
 {
     let fresh = pool.run_round(rt, alloc, rows, posts, gate)?;

@@ -1,9 +1,8 @@
 //! The rows that differ after a batch.
-ghost use Rattle.std.specs.Prelude.{◌≡◌, ◌+◌, ◌<◌, ◌≤◌, ◌++◌, IfOk, length};
-ghost use Rattle.std.specs.List.{All, range_with_len};
-ghost use Rattle.std.specs.Ordering.{nat_cmp};
+ghost use Rattle.std.specs.Prelude.{◌≡◌, ◌+◌, ◌<◌, ◌≤◌, ◌++◌, true, not, if◌then◌else◌, nat_eq, IfOk, [], ◌∷◌, length, slice_index};
+ghost use lib.Pointwise.{pointwise};
+ghost use Rattle.std.specs.List.{range_with_len};
 ghost use Rattle.ann_defs.specs.Graph.{row_in};
-ghost use Rattle.ann_defs.specs.Ordered.{ordered};
 ghost use Rattle.ann_defs.specs.BatchInsert.{last_row_of};
 ghost use Rattle.back_edges.specs.Proposing.{targets_of};
 ghost use Rattle.vamana_build.specs.Builds.{build_of};
@@ -11,46 +10,79 @@ ghost use Rattle.vamana_build.specs.Changes.{differing};
 ghost use Rattle.vamana_build.specs.ChangedRows.{rows_in};
 
 use crate::change::ChangedRow;
-use crate::ids::sort_ids;
 use crate::last_rows::LastRows;
-use crate::merged_rows::MergedRows;
 use ann_shelf::NoMemory;
+use back_edges::Proposals;
 use graph_files::Rows;
 use std::alloc::Global;
 
-// The ids whose rows a batch may change: its points and the targets, in ascending order.
-fn touched(alloc: Global, work: &MergedRows) -> Result<Vec<u32>, NoMemory>
-    ensures { IfOk result (λ v. v.items ≡ ordered nat_cmp (work.now.overlay.now.rows.now.batch.now ++ targets_of work.now.proposals.now.pairs)) }
+// The id at a place, or more than any id behind the last.
+fn id_at(ids: &[u32], at: usize) -> u32
+    ensures here { at < length ids.now → result ≡ slice_index ids.now at }
+    ensures behind { length ids.now ≤ at → result ≡ 4294967295 }
 {
-    let mut ids = work.overlay.rows.batch.to_vec(alloc)?;
-    for j in 0..work.proposals.targets() {
-        ids.push(work.proposals.target(j))?;
-    }
-    sort_ids(&mut ids);
-    Ok(ids)
+    if at < ids.len() { ids[at] } else { u32::MAX }
 }
 
-// Those of the ids whose rows differ, with their new rows.
-fn difference_of(alloc: Global, last: &LastRows, ids: &[u32]) -> Result<Vec<ChangedRow>, NoMemory>
-    requires { All (λ u. u < length last.now.work.now.overlay.now.rows.now.graph.now.rows) ids.now }
-    ensures rows { IfOk result (λ v. rows_in v.items ≡ differing (row_in last.now.work.now.overlay.now.rows.now.graph.now.rows) (last_row_of (build_of last.now.work.now.overlay.now.rows.now.plan.now.points.now.vectors last.now.work.now.overlay.now.rows.now.plan.now.settings) last.now.work.now.overlay.now.rows.now.graph.now.rows last.now.work.now.overlay.now.rows.now.batch.now) ids.now) }
+// The target at a place, or more than any id behind the last.
+fn target_at(proposals: &Proposals, at: u32) -> u32
+    requires { proposals.now.grouped ≡ true }
+    ensures here { at < length (targets_of proposals.now.pairs) → result ≡ slice_index (targets_of proposals.now.pairs) at }
+    ensures behind { length (targets_of proposals.now.pairs) ≤ at → result ≡ 4294967295 }
 {
-    let graph = last.work.overlay.rows.graph;
-    let mut rows = Vec::new(alloc);
-    for id in ids {
-        let row = last.row(*id);
-        if row != graph.row(*id) {
-            let row = row.to_vec(alloc)?;
-            rows.push(ChangedRow { id: *id, row })?;
-        }
+    if at < proposals.targets() {
+        proposals.target(at)
+    } else {
+        u32::MAX
     }
-    Ok(rows)
+}
+
+// Adds an id with its new row, where that differs from the old one.
+fn add_changed(
+    alloc: Global,
+    changed: &mut Vec<ChangedRow>,
+    id: u32,
+    new: &[u32],
+    old: &[u32],
+) -> Result<(), NoMemory>
+    ensures { IfOk result (λ _. rows_in changed.new.items ≡ rows_in changed.old.items ++ (if not (pointwise nat_eq new.now old.now) then (id, new.now) ∷ [] else [])) }
+{
+    if new == old {
+        return Ok(());
+    }
+    let row = new.to_vec(alloc)?;
+    changed.push(ChangedRow { id, row })?;
+    Ok(())
 }
 
 /// The ids whose rows differ, in ascending order, with their new rows.
+///
+/// Only the rows of the batch and of the targets can differ. Both lists ascend, so one pass over them meets each of
+/// these ids once, with its row at hand.
 pub(crate) fn difference(alloc: Global, last: &LastRows) -> Result<Vec<ChangedRow>, NoMemory>
     ensures rows { IfOk result (λ v. rows_in v.items ≡ differing (row_in last.now.work.now.overlay.now.rows.now.graph.now.rows) (last_row_of (build_of last.now.work.now.overlay.now.rows.now.plan.now.points.now.vectors last.now.work.now.overlay.now.rows.now.plan.now.settings) last.now.work.now.overlay.now.rows.now.graph.now.rows last.now.work.now.overlay.now.rows.now.batch.now) (range_with_len 0 (length last.now.work.now.overlay.now.rows.now.plan.now.points.now.vectors))) }
 {
-    let ids = touched(alloc, last.work)?;
-    difference_of(alloc, last, ids.as_slice())
+    let rows = last.work.overlay.rows;
+    let graph = rows.graph;
+    let batch = rows.batch;
+    let proposals = last.work.proposals;
+    let total = batch.len() + proposals.targets() as usize;
+    let mut changed = Vec::new(alloc);
+    let mut i = 0usize;
+    let mut j = 0u32;
+    while i + (j as usize) < total {
+        let point = id_at(batch, i);
+        let target = target_at(proposals, j);
+        if target <= point {
+            let new = last.of_target(j);
+            add_changed(alloc, &mut changed, target, new, graph.row(target))?;
+            i += (point == target) as usize;
+            j += 1;
+        } else {
+            let new = last.of_point(i);
+            add_changed(alloc, &mut changed, point, new, graph.row(point))?;
+            i += 1;
+        }
+    }
+    Ok(changed)
 }

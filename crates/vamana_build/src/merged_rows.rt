@@ -4,7 +4,7 @@ ghost use Rattle.ann_defs.specs.Ordered.{ordered};
 ghost use Rattle.back_edges.specs.Proposing.{pair_cmp, targets_of};
 ghost use Rattle.vamana_build.specs.Builds.{build_of};
 ghost use Rattle.vamana_build.specs.Proposed.{proposed};
-ghost use Rattle.vamana_build.specs.Serving.{IsServing};
+ghost use Rattle.beam_search.specs.Serving.{Serves};
 ghost use Rattle.vamana_build.specs.Wanted.{merged_blocks};
 
 use crate::block::seal;
@@ -29,7 +29,7 @@ impl<'a> Work for MergedRows<'a> {
 
     ghost wide = { λ w. w.overlay.now.rows.now.plan.now.settings.degree + 1 };
 
-    ghost serves = { λ w s. IsServing (length w.overlay.now.rows.now.plan.now.points.now.vectors) w.overlay.now.rows.now.plan.now.settings.beam s };
+    ghost serves = { λ w s. Serves (length w.overlay.now.rows.now.plan.now.points.now.vectors) w.overlay.now.rows.now.plan.now.settings.beam s };
 
     fn tasks(&self) -> u32 {
         self.proposals.targets()

@@ -6,7 +6,7 @@ ghost use Rattle.std.proofs.Props.{props};
 ghost use Rattle.ann_defs.specs.Graph.{AreGoodRows};
 ghost use Rattle.ann_defs.specs.Ordered.{ordered};
 ghost use Rattle.vamana_build.specs.Builds.{build_of};
-ghost use Rattle.vamana_build.specs.Serving.{IsServing};
+ghost use Rattle.beam_search.specs.Serving.{Serves};
 ghost use Rattle.vamana_build.specs.Wanted.{new_blocks};
 
 use crate::block::seal;
@@ -35,7 +35,7 @@ impl<'a> Work for NewRows<'a> {
 
     ghost wide = { λ w. w.plan.now.settings.degree + 1 };
 
-    ghost serves = { λ w s. IsServing (length w.plan.now.points.now.vectors) w.plan.now.settings.beam s };
+    ghost serves = { λ w s. Serves (length w.plan.now.points.now.vectors) w.plan.now.settings.beam s };
 
     fn tasks(&self) -> u32 {
         self.batch.len() as u32

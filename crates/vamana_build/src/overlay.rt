@@ -24,7 +24,7 @@ pub(crate) struct Overlay<'a> {
 
 impl<'a> Overlay<'a> {
     // The new row of a point of the batch.
-    fn fresh_row(&self, i: usize) -> &[u32]
+    pub(crate) fn fresh_row(&self, i: usize) -> &[u32]
         requires { i < length self.now.rows.now.batch.now }
         ensures value { result.now ≡ new_row_of (build_of self.now.rows.now.plan.now.points.now.vectors self.now.rows.now.plan.now.settings) self.now.rows.now.graph.now.rows (slice_index self.now.rows.now.batch.now i) }
         ensures short { length result.now ≤ self.now.rows.now.plan.now.settings.degree }

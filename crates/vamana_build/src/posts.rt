@@ -1,7 +1,7 @@
 //! The posts of a build.
 ghost use Rattle.std.specs.Prelude.{◌≡◌, ◌≤◌, IfOk, length};
 ghost use Rattle.steal_pool.specs.Work.{AllServe};
-ghost use Rattle.vamana_build.specs.Serving.{IsServing};
+ghost use Rattle.beam_search.specs.Serving.{Serves};
 
 use crate::plan::Plan;
 use ann_shelf::NoMemory;
@@ -17,7 +17,7 @@ pub(crate) fn posts_for(
 ) -> Result<Vec<Post<Scratch>>, NoMemory>
     requires { workers ≤ 64 }
     ensures count { IfOk result (λ v. length v.items ≡ workers) }
-    ensures serve { IfOk result (λ v. AllServe (IsServing (length plan.now.points.now.vectors) plan.now.settings.beam) v.items) }
+    ensures serve { IfOk result (λ v. AllServe (Serves (length plan.now.points.now.vectors) plan.now.settings.beam) v.items) }
 {
     let mut posts = Vec::with_capacity(alloc, workers as usize)?;
     for _ in 0..workers {

@@ -3,7 +3,7 @@ ghost use Rattle.std.specs.Prelude.{◌≡◌, ◌+◌, ◌<◌, ◌≤◌, leng
 ghost use Rattle.ann_defs.specs.Graph.{AreGoodRows};
 ghost use Rattle.ann_defs.specs.BatchInsert.{new_row_of};
 ghost use Rattle.vamana_build.specs.Builds.{build_of};
-ghost use Rattle.vamana_build.specs.Serving.{IsServing};
+ghost use Rattle.beam_search.specs.Serving.{Serves};
 
 use crate::plan::Plan;
 use beam_search::{Scratch, candidates, search};
@@ -20,11 +20,11 @@ pub(crate) fn new_row(
 ) -> usize
     requires p { p < length plan.now.points.now.vectors }
     requires good { AreGoodRows (length plan.now.points.now.vectors) plan.now.settings.degree graph.now.rows }
-    requires serves { IsServing (length plan.now.points.now.vectors) plan.now.settings.beam scratch.old }
+    requires serves { Serves (length plan.now.points.now.vectors) plan.now.settings.beam scratch.old }
     requires out { plan.now.settings.degree ≤ length out.old }
     ensures row { take result out.new ≡ new_row_of (build_of plan.now.points.now.vectors plan.now.settings) graph.now.rows p }
     ensures bound { result ≤ plan.now.settings.degree }
-    ensures serves { IsServing (length plan.now.points.now.vectors) plan.now.settings.beam scratch.new }
+    ensures serves { Serves (length plan.now.points.now.vectors) plan.now.settings.beam scratch.new }
 {
     let points = plan.points;
     search(

@@ -7,7 +7,7 @@ ghost use Rattle.ann_defs.specs.BatchInsert.{bound_at};
 ghost use Rattle.steal_pool.specs.Work.{AllServe};
 ghost use Rattle.vamana_build.specs.Builds.{graph_at};
 ghost use Rattle.vamana_build.specs.Changes.{change_at};
-ghost use Rattle.vamana_build.specs.Serving.{IsServing};
+ghost use Rattle.beam_search.specs.Serving.{Serves};
 
 use crate::batch::rows_changed;
 use crate::change::BatchChange;
@@ -41,9 +41,9 @@ pub(crate) fn change_of<R: Threads + Sync, P: Rounds, G: Gate + Sync>(
     requires few { k < 4194304 }
     requires graph { graph.now ≡ graph_at plan.now.points.now.vectors plan.now.settings k }
     requires posts { length posts.old ≡ P.count pool.old }
-    requires serve { AllServe (IsServing (length plan.now.points.now.vectors) plan.now.settings.beam) posts.old }
+    requires serve { AllServe (Serves (length plan.now.points.now.vectors) plan.now.settings.beam) posts.old }
     ensures change { IfOk result (λ c. c ≡ change_at plan.now.points.now.vectors plan.now.settings k) }
-    ensures serve { AllServe (IsServing (length plan.now.points.now.vectors) plan.now.settings.beam) posts.new }
+    ensures serve { AllServe (Serves (length plan.now.points.now.vectors) plan.now.settings.beam) posts.new }
     ensures workers { P.count pool.new ≡ P.count pool.old }
 {
     let mut batch = plan.order[from as usize..to as usize].to_vec(alloc)?;

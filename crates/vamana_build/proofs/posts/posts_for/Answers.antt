@@ -4,7 +4,7 @@ use Rattle.std.proofs.lemmas.List.Elements.{All-push}
 use Rattle.beam_search.specs.Room.{Room}
 use Rattle.steal_pool.specs.declared.post.Post.{Post}
 use Rattle.steal_pool.specs.Work.{AllServe, scratch_of}
-use Rattle.vamana_build.specs.Serving.{IsServing}
+use Rattle.beam_search.specs.Serving.{Serves}
 use Rattle.vamana_build.proofs.posts.posts_for.Goals as goal
 
 pub loop-preserved : goal.loop-preserved
@@ -14,11 +14,11 @@ loop-preserved c =
     let post : Post Room = c.new-in-loop.result in
     let made = c.new-in-loop.ensures ∙ c.in_ok-scratch.ensures in
     let wide : (scratch_of post).beam ≡ beam = ap (λ (r : Room). r.beam) made in
-    let serves : IsServing n beam (scratch_of post) = record {
+    let serves : Serves n beam (scratch_of post) = record {
       count = ap (λ (r : Room). r.count) made ∙ c.count.ensures.value;
       beam_fits = omega (arith, wide);
     } in
     record {
       count = ap length c.in_ok-push.ensures.items ∙ length_push c.loop.posts.items post ∙ ap (λ k. k + 1) c.loop.invariant.count;
-      serve = subst (AllServe (IsServing n beam)) (sym c.in_ok-push.ensures.items) (All-push (λ (p : Post Room). IsServing n beam (scratch_of p)) c.loop.posts.items post c.loop.invariant.serve serves);
+      serve = subst (AllServe (Serves n beam)) (sym c.in_ok-push.ensures.items) (All-push (λ (p : Post Room). Serves n beam (scratch_of p)) c.loop.posts.items post c.loop.invariant.serve serves);
     }

@@ -1,10 +1,10 @@
 use Rattle.std.proofs.Common.{◌≡◌, length}
 use Rattle.steal_pool.specs.Work.{AllServe}
-use Rattle.vamana_build.specs.Serving.{IsServing}
+use Rattle.beam_search.specs.Serving.{Serves}
 use Rattle.vamana_build.proofs.posts.posts_for.Given as goal
 
 abbrev pub invariant-loop : goal.invariant-loop
 invariant-loop l = record {
   count : length l.posts.items ≡ l.counter;
-  serve : AllServe (IsServing (length l.plan.points.now.vectors) l.plan.settings.beam) l.posts.items;
+  serve : AllServe (Serves (length l.plan.points.now.vectors) l.plan.settings.beam) l.posts.items;
 }
