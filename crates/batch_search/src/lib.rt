@@ -19,3 +19,4 @@ pub use answers::Answers;
 pub use batch::QueryBatch;
 pub use posts::posts_for;
 pub use round::answer_round;
+pub use tasks::MAX_TASKS;

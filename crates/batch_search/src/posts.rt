@@ -1,7 +1,7 @@
 //! What the workers need.
 ghost use Rattle.std.specs.Prelude.{◌≡◌, ◌≤◌, IfOk, length};
 ghost use Rattle.steal_pool.specs.Work.{AllServe};
-ghost use Rattle.batch_search.specs.Serving.{Serves};
+ghost use Rattle.beam_search.specs.Serving.{Serves};
 
 use ann_shelf::NoMemory;
 use beam_search::Scratch;

@@ -4,7 +4,7 @@ ghost use Rattle.std.specs.List.{All};
 ghost use Rattle.graph_files.specs.View.{contents};
 ghost use Rattle.steal_pool.specs.Work.{AllServe};
 ghost use Rattle.batch_search.specs.Answers.{answers_of, round_of};
-ghost use Rattle.batch_search.specs.Serving.{Serves};
+ghost use Rattle.beam_search.specs.Serving.{Serves};
 
 use crate::answers::Answers;
 use crate::batch::QueryBatch;

@@ -4,12 +4,15 @@ ghost use Rattle.ann_defs.specs.Distance.{point};
 ghost use Rattle.graph_files.specs.View.{contents};
 ghost use Rattle.batch_search.specs.Answers.{answer_of, round_of, round_size};
 ghost use Rattle.batch_search.specs.Blocks.{block_of};
-ghost use Rattle.batch_search.specs.Serving.{Serves};
+ghost use Rattle.beam_search.specs.Serving.{Serves};
 
 use crate::batch::QueryBatch;
 use crate::block::write_answer;
 use beam_search::{Scratch, found, search};
 use steal_pool::Work;
+
+/// The greatest number of queries in a round.
+pub const MAX_TASKS: u32 = 4096;
 
 /// A task for each query of a round: `len` queries from `from` on.
 #[derive(Drop)]
@@ -50,7 +53,7 @@ pub(crate) fn round_from<'a>(batch: &'a QueryBatch<'a>, from: u32) -> RoundTasks
     ensures batch { result.batch.now ≡ batch.now }
     ensures from { result.from ≡ from }
 {
-    let len = (batch.queries.count() - from).min(4096);
+    let len = (batch.queries.count() - from).min(MAX_TASKS);
     RoundTasks { batch, from, len }
 }
 

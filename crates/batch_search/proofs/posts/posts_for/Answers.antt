@@ -4,7 +4,7 @@ use Rattle.std.proofs.lemmas.List.Elements.{All-push}
 use Rattle.beam_search.specs.Room.{Room}
 use Rattle.steal_pool.specs.declared.post.Post.{Post}
 use Rattle.steal_pool.specs.Work.{AllServe, scratch_of}
-use Rattle.batch_search.specs.Serving.{Serves}
+use Rattle.beam_search.specs.Serving.{Serves}
 use Rattle.batch_search.proofs.posts.posts_for.Goals as goal
 
 pub loop-preserved : goal.loop-preserved

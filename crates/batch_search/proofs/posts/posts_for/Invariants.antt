@@ -1,6 +1,6 @@
 use Rattle.std.proofs.Common.{◌≡◌, length}
 use Rattle.steal_pool.specs.Work.{AllServe}
-use Rattle.batch_search.specs.Serving.{Serves}
+use Rattle.beam_search.specs.Serving.{Serves}
 use Rattle.batch_search.proofs.posts.posts_for.Given as goal
 
 abbrev pub invariant-loop : goal.invariant-loop
