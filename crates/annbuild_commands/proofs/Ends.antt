@@ -1,6 +1,6 @@
 -- How a command ends, from how its parts end.
 use Rattle.std.proofs.Common.{◌≡◌, ◌∙◌, ◌≤◌, ℕ, List, ◌++◌, length, refl, sym, ap, subst, arith, Option, Some, None, IfSome, inl, inr, true, false, cond, nat_lt}
-use Rattle.std.proofs.lemmas.List.{take_all, append-nil}
+use Rattle.std.proofs.lemmas.List.{take_all}
 use Rattle.ann_shelf.specs.declared.slip.Slip.{Slip}
 use Rattle.ann_shelf.specs.declared.slip.Slip.TheVariants.{Failed, NoMemory as NoSlipMemory}
 use Rattle.ann_shelf.specs.Files.{Files, bytes_of, with_file}
@@ -32,10 +32,9 @@ use Rattle.annbuild_commands.specs.Faults.{write_fault_of}
 use Rattle.annbuild_commands.specs.IndexOf.{file_of, line_of, told_of, kind_at}
 use Rattle.annbuild_commands.specs.Building.{IsIndexOf, IsBuilt, IsTold, IsOfWriting, LeavesFile, LeavesLine}
 use Rattle.annbuild_commands.specs.Querying.{LeavesLines, IsOfAnswering}
-use Rattle.annbuild_commands.specs.Commands.{refusal, IsReached, Tells, IsReadOf, IsWriteOf, HasCause, IsQuiet, Leaves, LeavesOut, WritesInOrder}
+use Rattle.annbuild_commands.specs.Commands.{refusal, IsReached, Tells, IsReadOf, IsWriteOf, HasCause, IsQuiet, Leaves, LeavesOut, WritesInOrder, IsBeforeWriting}
 use Rattle.annbuild_commands.specs.Reading.{IsOfReading, IsReadFault}
-use Rattle.annbuild_commands.specs.Ending.{OnCommand}
-use Rattle.annbuild_commands.proofs.LineLists.{no_lines}
+use Rattle.annbuild_commands.specs.Ending.{OnCommand, IsShownOrNoMemory}
 
 pub file_is : (i : Contents) → text_of i ≡ file_of i
 unfolding file_of
@@ -98,15 +97,15 @@ leaves_same base index o reads f text (Write role) h = absurd (no_write (Builds 
 leaves_same base index o reads f text NoMemory h = inl refl
 leaves_same base index o reads f text (TooLarge n x l) h = refl
 
-pub line_same : (base index : List ℕ) (o : BuildOptions) (reads : List ℕ → Type 0) (t line : List ℕ) (fault : Fault) → HasCause (Builds base index o) reads (λ name. ⊥) ⊥ fault → LeavesLine t t line fault
-line_same base index o reads t line Usage h = absurd h
-line_same base index o reads t line (Setting n x l g) h = absurd h
-line_same base index o reads t line (Read role) h = refl
-line_same base index o reads t line (Malformed role place rule) h = refl
-line_same base index o reads t line (Unfit role what found wanted) h = refl
-line_same base index o reads t line (Write role) h = absurd (no_write (Builds base index o) role h)
-line_same base index o reads t line NoMemory h = (0, sym (append-nil t))
-line_same base index o reads t line (TooLarge n x l) h = refl
+pub line_same : (base index : List ℕ) (o : BuildOptions) (reads : List ℕ → Type 0) (wants : Type 0) (t line : List ℕ) (fault : Fault) → HasCause (Builds base index o) reads (λ name. ⊥) ⊥ fault → LeavesLine wants t t line fault
+line_same base index o reads wants t line Usage h = absurd h
+line_same base index o reads wants t line (Setting n x l g) h = absurd h
+line_same base index o reads wants t line (Read role) h = refl
+line_same base index o reads wants t line (Malformed role place rule) h = refl
+line_same base index o reads wants t line (Unfit role what found wanted) h = refl
+line_same base index o reads wants t line (Write role) h = absurd (no_write (Builds base index o) role h)
+line_same base index o reads wants t line NoMemory h = inl refl
+line_same base index o reads wants t line (TooLarge n x l) h = refl
 
 pub lines_same : (base index queries : List ℕ) (o : QueryOptions) (reads : List ℕ → Type 0) (wants : Type 0) (t : List ℕ) (answers : List (List Near)) (fault : Fault)
     → HasCause (Queried base index queries o) reads (λ name. ⊥) ⊥ fault → LeavesLines wants t t answers fault
@@ -116,7 +115,7 @@ lines_same base index queries o reads wants t answers (Read role) h = refl
 lines_same base index queries o reads wants t answers (Malformed role place rule) h = refl
 lines_same base index queries o reads wants t answers (Unfit role what found wanted) h = refl
 lines_same base index queries o reads wants t answers (Write role) h = absurd (no_write (Queried base index queries o) role h)
-lines_same base index queries o reads wants t answers NoMemory h = inl (0, sym (append-nil t) ∙ ap (λ x. t ++ x) (sym (no_lines 0)))
+lines_same base index queries o reads wants t answers NoMemory h = inl refl
 lines_same base index queries o reads wants t answers (TooLarge n x l) h = refl
 
 -- what a fault of a file is as a fault of a command
@@ -181,17 +180,17 @@ pub leaves_index : (f g : Files) (name text : List ℕ) (slip : Slip) → WroteS
 leaves_index f g name text Failed some = some
 leaves_index f g name text NoSlipMemory some = some
 
-pub out_index : (t line : List ℕ) (slip : Slip) → LeavesLine t t line (write_fault_of Index slip)
-out_index t line Failed = refl
-out_index t line NoSlipMemory = (0, sym (append-nil t))
+pub out_index : (wants : Type 0) (t line : List ℕ) (slip : Slip) → LeavesLine wants t t line (write_fault_of Index slip)
+out_index wants t line Failed = refl
+out_index wants t line NoSlipMemory = inl refl
 
 pub leaves_output : (f g : Files) (name text : List ℕ) (slip : Slip) → g ≡ with_file f name text → LeavesFile f g name text (write_fault_of Output slip)
 leaves_output f g name text Failed whole = whole
 leaves_output f g name text NoSlipMemory whole = inr (length text, whole ∙ ap (with_file f name) (sym (take_all (length text) text (omega arith))))
 
-pub out_output : (t u line : List ℕ) (slip : Slip) → GotSome t u line → LeavesLine t u line (write_fault_of Output slip)
-out_output t u line Failed some = some
-out_output t u line NoSlipMemory some = some
+pub out_output : (wants : Type 0) (t u line : List ℕ) (slip : Slip) → (slip ≡ NoSlipMemory → wants) → GotSome t u line → LeavesLine wants t u line (write_fault_of Output slip)
+out_output wants t u line Failed w some = some
+out_output wants t u line NoSlipMemory w some = inr (w refl, some)
 
 -- a count that rose later, and one that rose earlier
 pub rose_later : (a b c : ℕ) → a ≤ b → Rose b c → Rose a c
@@ -227,7 +226,7 @@ told_from files before got base o i (good, are, spelled, is) line = line ∙ ap 
 pub not_usage : (c : Command) (reads writes : List ℕ → Type 0) (outs : Type 0) (fault : Fault) → HasCause c reads writes outs fault → fault ≡ Usage → ⊥
 not_usage c reads writes outs fault h e = subst (HasCause c reads writes outs) e h
 
--- where no count rose and nothing is refused, only want of memory is left
+-- where no count rose, a fault is the refusal that the files show, or want of memory
 quiet_read : (c : Command) (reads writes : List ℕ → Type 0) (outs : Type 0) (role : Role) → IsQuiet c reads writes outs → IsReadOf c reads role → ⊥
 quiet_read (Builds base index o) reads writes outs Base q h = q.0 h
 quiet_read (Builds base index o) reads writes outs Index q h = h
@@ -248,16 +247,16 @@ quiet_write (Queried base index queries o) reads writes outs Index q h = h
 quiet_write (Queried base index queries o) reads writes outs Queries q h = h
 quiet_write (Queried base index queries o) reads writes outs Output q h = q.3 h
 
-pub nothing_left : (c : Command) (files : Files) (reads writes : List ℕ → Type 0) (outs : Type 0) (fault : Fault)
-    → HasCause c reads writes outs fault → Tells c files fault → refusal c files ≡ None → IsQuiet c reads writes outs → fault ≡ NoMemory
-nothing_left c files reads writes outs Usage h t g q = absurd h
-nothing_left c files reads writes outs (Setting n v l u) h t g q = absurd h
-nothing_left c files reads writes outs (Read role) h t g q = absurd (quiet_read c reads writes outs role q h)
-nothing_left c files reads writes outs (Malformed role place rule) h t g q = cc
-nothing_left c files reads writes outs (Unfit role what found wanted) h t g q = cc
-nothing_left c files reads writes outs (Write role) h t g q = absurd (quiet_write c reads writes outs role q h)
-nothing_left c files reads writes outs NoMemory h t g q = refl
-nothing_left c files reads writes outs (TooLarge n v l) h t g q = cc
+pub shown_or_memory : (c : Command) (files : Files) (reads writes : List ℕ → Type 0) (outs : Type 0) (fault : Fault)
+    → HasCause c reads writes outs fault → Tells c files fault → IsQuiet c reads writes outs → IsShownOrNoMemory (refusal c files) (Some fault)
+shown_or_memory c files reads writes outs Usage h t q = absurd h
+shown_or_memory c files reads writes outs (Setting n v l u) h t q = absurd h
+shown_or_memory c files reads writes outs (Read role) h t q = absurd (quiet_read c reads writes outs role q h)
+shown_or_memory c files reads writes outs (Malformed role place rule) h t q = inl (sym t)
+shown_or_memory c files reads writes outs (Unfit role what found wanted) h t q = inl (sym t)
+shown_or_memory c files reads writes outs (Write role) h t q = absurd (quiet_write c reads writes outs role q h)
+shown_or_memory c files reads writes outs NoMemory h t q = inr refl
+shown_or_memory c files reads writes outs (TooLarge n v l) h t q = inl (sym t)
 
 -- what is said of what is told
 pub told_here : {A : Type 0} {P : A → Type 0} (o : Option A) → ((x : A) → o ≡ Some x → P x) → IfSome o P
@@ -299,9 +298,30 @@ none_leaves (Builds base index o) f = inl refl
 none_leaves (Queried base index queries o) f = refl
 
 pub none_out : (c : Command) (wants : Type 0) (f : Files) (t : List ℕ) → LeavesOut c wants f t t NoMemory
-none_out (Builds base index o) wants f t = (0, sym (append-nil t))
-none_out (Queried base index queries o) wants f t = inl (0, sym (append-nil t) ∙ ap (λ x. t ++ x) (sym (no_lines 0)))
+none_out (Builds base index o) wants f t = inl refl
+none_out (Queried base index queries o) wants f t = inl refl
 
 pub none_order : (c : Command) (f : Files) (after : Option Files) (written : Option (List ℕ)) → WritesInOrder c f after written written
 none_order (Builds base index o) f after written = inl refl
 none_order (Queried base index queries o) f after written = tt
+
+-- a fault of the writing, or of answering, is none that comes before the writing
+pub not_before : (fault : Fault) → IsOfWriting fault → IsBeforeWriting fault → ⊥
+not_before Usage w b = w
+not_before (Setting n v l u) w b = w
+not_before (Read role) w b = w
+not_before (Malformed role place rule) w b = w
+not_before (Unfit role what found wanted) w b = w
+not_before (Write role) w b = b
+not_before NoMemory w b = b
+not_before (TooLarge n v l) w b = w
+
+pub not_before_answering : (outs : Type 0) (fault : Fault) → IsOfAnswering outs fault → IsBeforeWriting fault → ⊥
+not_before_answering outs Usage w b = w
+not_before_answering outs (Setting n v l u) w b = w
+not_before_answering outs (Read role) w b = w
+not_before_answering outs (Malformed role place rule) w b = w
+not_before_answering outs (Unfit role what found wanted) w b = w
+not_before_answering outs (Write role) w b = b
+not_before_answering outs NoMemory w b = b
+not_before_answering outs (TooLarge n v l) w b = w

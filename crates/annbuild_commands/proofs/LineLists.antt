@@ -138,29 +138,26 @@ pub none_yet : (o : Option (List ℕ)) (first : ℕ) (answers : List (List Near)
 none_yet None first answers = tt
 none_yet (Some before) first answers = ap Some (sym (ap (λ t. before ++ t) (no_lines first) ∙ append-nil before))
 
-pub no_more : (before : List ℕ) (answers : List (List Near)) → before ≡ before ++ lines_from 0 (take 0 answers)
-no_more before answers = sym (ap (λ t. before ++ t) (no_lines 0) ∙ append-nil before)
-
 -- what is said of an output that another told of
 pub told_on : {A B : Type 0} (f : A → B) (Q : B → Type 0) (o : Option A) (p : Option B) → IfSome o (λ x. p ≡ Some (f x)) → IfSome p Q → IfSome o (λ x. Q (f x))
 told_on f Q None p told q = tt
 told_on f Q (Some x) p told q = subst (λ v. IfSome v Q) told q
 
 -- a fault in a round, as one of all answers
-pub round_leaves : (wants more : Type 0) (before after : List ℕ) (answers : List (List Near)) (from size : ℕ) (fault : Fault) → from ≤ length answers → (wants → more)
+pub round_leaves : (wants more : Type 0) (before after : List ℕ) (answers : List (List Near)) (from size : ℕ) (fault : Fault) → from < length answers → (wants → more)
     → LeavesRound wants (before ++ lines_from 0 (take from answers)) after (lines_from from (take size (drop from answers))) fault → LeavesLines more before after answers fault
-round_leaves wants more before after answers from size Usage short m h = absurd h
-round_leaves wants more before after answers from size (Setting n v l g) short m h = absurd h
-round_leaves wants more before after answers from size (Read role) short m h = absurd h
-round_leaves wants more before after answers from size (Malformed role place rule) short m h = absurd h
-round_leaves wants more before after answers from size (Unfit role what found wanted) short m h = absurd h
-round_leaves wants more before after answers from size (Write Base) short m h = absurd h
-round_leaves wants more before after answers from size (Write Index) short m h = absurd h
-round_leaves wants more before after answers from size (Write Queries) short m h = absurd h
-round_leaves wants more before after answers from size (Write Output) short m h = round_within from size answers before after short h
-round_leaves wants more before after answers from size NoMemory short m h =
-    elim h as (λ _. LeavesLines more before after answers NoMemory) [ inl e ↦ inl (from, e) | inr got ↦ inr (m got.0, round_within from size answers before after short got.1) ]
-round_leaves wants more before after answers from size (TooLarge n v l) short m h = absurd h
+round_leaves wants more before after answers from size Usage less m h = absurd h
+round_leaves wants more before after answers from size (Setting n v l g) less m h = absurd h
+round_leaves wants more before after answers from size (Read role) less m h = absurd h
+round_leaves wants more before after answers from size (Malformed role place rule) less m h = absurd h
+round_leaves wants more before after answers from size (Unfit role what found wanted) less m h = absurd h
+round_leaves wants more before after answers from size (Write Base) less m h = absurd h
+round_leaves wants more before after answers from size (Write Index) less m h = absurd h
+round_leaves wants more before after answers from size (Write Queries) less m h = absurd h
+round_leaves wants more before after answers from size (Write Output) less m h = round_within from size answers before after (omega (arith, less)) h
+round_leaves wants more before after answers from size NoMemory less m h =
+    elim h as (λ _. LeavesLines more before after answers NoMemory) [ inl e ↦ inr (inl (from, less, e)) | inr got ↦ inr (inr (m got.0, round_within from size answers before after (omega (arith, less)) got.1)) ]
+round_leaves wants more before after answers from size (TooLarge n v l) less m h = absurd h
 
 pub answering_more : (outs more : Type 0) (fault : Fault) → (outs → more) → IsOfAnswering outs fault → IsOfAnswering more fault
 answering_more outs more Usage m h = absurd h

@@ -62,8 +62,8 @@ LeavesFile old new name text (Write role) = WroteSome old new name text
 LeavesFile old new name text NoMemory = WroteSome old new name text
 LeavesFile old new name text fault = new ≡ old
 
--- what the output got after a fault
-abbrev pub LeavesLine : List ℕ → List ℕ → List ℕ → Fault → Type 0
-LeavesLine old new line (Write Output) = GotSome old new line
-LeavesLine old new line NoMemory = GotSome old new line
-LeavesLine old new line fault = new ≡ old
+-- what the output got after a fault, where `wants` says that its count of want of memory rose: nothing, unless a write failed or wanted memory
+abbrev pub LeavesLine : (wants : Type 0) → List ℕ → List ℕ → List ℕ → Fault → Type 0
+LeavesLine wants old new line (Write Output) = GotSome old new line
+LeavesLine wants old new line NoMemory = (new ≡ old) ⊎ (wants × GotSome old new line)
+LeavesLine wants old new line fault = new ≡ old

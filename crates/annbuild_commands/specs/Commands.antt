@@ -1,5 +1,5 @@
 -- What is said of every command: the same clauses, each by the command.
-use Rattle.std.specs.Prelude.{◌≡◌, ℕ, List, ◌++◌, Option, Some, None}
+use Rattle.std.specs.Prelude.{◌≡◌, ◌⊎◌, ℕ, List, ◌++◌, Option, Some, None}
 use Rattle.ann_shelf.specs.Files.{Files, bytes_of}
 use Rattle.annbuild_words.specs.Asked.{Command}
 use Rattle.annbuild_words.specs.Asked.Command.{Builds, Queries as Queried}
@@ -78,10 +78,20 @@ Leaves (Queried base index queries o) files after fault = after ≡ files
 
 -- what the output got after a fault, where `wants` says that its count of want of memory rose
 abbrev pub LeavesOut : Command → (wants : Type 0) → Files → List ℕ → List ℕ → Fault → Type 0
-LeavesOut (Builds base index o) wants files before after fault = LeavesLine before after (index_line (bytes_of files base) o) fault
+LeavesOut (Builds base index o) wants files before after fault = LeavesLine wants before after (index_line (bytes_of files base) o) fault
 LeavesOut (Queried base index queries o) wants files before after fault = LeavesLines wants before after (answers_in (bytes_of files base) (bytes_of files index) (bytes_of files queries) o) fault
 
 -- the output got something only where the file that the command writes is whole
 abbrev pub WritesInOrder : Command → Files → Option Files → Option (List ℕ) → Option (List ℕ) → Type 0
 WritesInOrder (Builds base index o) files after before written = IsInOrder files after index (index_text (bytes_of files base) o) before written
 WritesInOrder (Queried base index queries o) files after before written = Unit {0}
+
+-- where the files show a refusal, nothing is written
+abbrev pub WritesIfAccepted : Command → Files → Option Files → Option (List ℕ) → Option (List ℕ) → Type 0
+WritesIfAccepted command files after before written = (refusal command files ≡ None) ⊎ ((after ≡ Some files) × (written ≡ before))
+
+-- a fault that comes before the writing: any but a failed write and want of memory
+abbrev pub IsBeforeWriting : Fault → Type 0
+IsBeforeWriting (Write role) = ⊥
+IsBeforeWriting NoMemory = ⊥
+IsBeforeWriting fault = Unit {0}

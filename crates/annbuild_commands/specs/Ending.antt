@@ -1,5 +1,5 @@
 -- What the words mean, as a condition of what is said of a call, and the line of a fault.
-use Rattle.std.specs.Prelude.{◌≡◌, ◌⊎◌, ℕ, ◌<◌, List, ◌++◌, length, take, Option, Some, None}
+use Rattle.std.specs.Prelude.{◌≡◌, ◌⊎◌, ℕ, ◌<◌, List, ◌++◌, length, take, Option, Some}
 use Rattle.annbuild_words.specs.Asked.{Command, Meaning}
 use Rattle.annbuild_words.specs.Asked.Meaning.{Means}
 use Rattle.annbuild_words.specs.Lines.{fault_text}
@@ -16,9 +16,9 @@ abbrev pub IsNoCommand : Meaning → Type 0
 IsNoCommand (Means command) = ⊥
 IsNoCommand meaning = Unit {0}
 
--- the request was done, or there was no memory
-abbrev pub IsDoneOrNoMemory : Option Fault → Type 0
-IsDoneOrNoMemory fault = (fault ≡ None) ⊎ (fault ≡ Some NoMemory)
+-- the fault is the refusal that the files show, none where they show none; or there was no memory
+abbrev pub IsShownOrNoMemory : (shown fault : Option Fault) → Type 0
+IsShownOrNoMemory shown fault = (fault ≡ shown) ⊎ (fault ≡ Some NoMemory)
 
 -- the line of a fault
 unfoldable pub fault_line : Fault → List ℕ

@@ -1,5 +1,5 @@
 -- How `query` ends.
-use Rattle.std.specs.Prelude.{◌≡◌, ◌⊎◌, ℕ, not, ◌==◌, if◌then◌else◌, List, [], ◌++◌, length, take, Option, Some, None, Result, Ok, Err}
+use Rattle.std.specs.Prelude.{◌≡◌, ◌⊎◌, ℕ, ◌<◌, not, ◌==◌, if◌then◌else◌, List, [], ◌++◌, length, take, Option, Some, None, Result, Ok, Err}
 use Rattle.std.specs.List.{flat_map, enumerate_from}
 use Rattle.std.specs.Option.{option_or}
 use Rattle.ann_shelf.specs.Written.{GotSome}
@@ -56,14 +56,14 @@ answers_with points (Err fault) queries o = []
 unfoldable pub answers_in : (base index queries : List ℕ) → QueryOptions → List (List Near)
 answers_in base index queries o = answers_with (points_of base) (index_in index) (points_of queries) o
 
--- the output gained the lines of the first answers, whole
+-- the output gained the lines of the first answers, whole, but not of all
 abbrev pub GotLines : List ℕ → List ℕ → List (List Near) → Type 0
-GotLines old new answers = (count : ℕ) × (new ≡ old ++ lines_from 0 (take count answers))
+GotLines old new answers = (count : ℕ) × (count < length answers) × (new ≡ old ++ lines_from 0 (take count answers))
 
 -- what the output got after a fault: whole lines, unless a write failed or wanted memory
 abbrev pub LeavesLines : (wants : Type 0) → List ℕ → List ℕ → List (List Near) → Fault → Type 0
 LeavesLines wants old new answers (Write Output) = GotSome old new (lines_from 0 answers)
-LeavesLines wants old new answers NoMemory = GotLines old new answers ⊎ (wants × GotSome old new (lines_from 0 answers))
+LeavesLines wants old new answers NoMemory = (new ≡ old) ⊎ (GotLines old new answers ⊎ (wants × GotSome old new (lines_from 0 answers)))
 LeavesLines wants old new answers fault = new ≡ old
 
 -- what the output got after a fault in a round whose lines are this text: nothing, unless a write failed or wanted memory

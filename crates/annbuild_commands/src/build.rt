@@ -9,7 +9,7 @@ ghost use Rattle.annbuild_words.specs.Asked.{AreInRange};
 ghost use Rattle.annbuild_words.specs.Asked.Command.{Builds};
 ghost use Rattle.annbuild_commands.specs.IndexOf.{index_of, file_of, line_of, words_of};
 ghost use Rattle.annbuild_commands.specs.Building.{build_refusal, IsIndexOf, IsInOrder, IsOfWriting, LeavesFile, LeavesLine};
-ghost use Rattle.annbuild_commands.specs.Commands.{Stores, Prints, refusal, Tells, HasCause, Leaves, LeavesOut, WritesInOrder};
+ghost use Rattle.annbuild_commands.specs.Commands.{Stores, Prints, refusal, Tells, HasCause, Leaves, LeavesOut, WritesInOrder, WritesIfAccepted, IsBeforeWriting};
 
 use crate::faults::write_fault;
 use crate::files::read_points_of;
@@ -193,7 +193,7 @@ fn written<F: Shelf, O: Out>(
     ensures leaves { IfErr result (λ fault. IfSome (F.held shelf.old) (λ files. (after : Files) × (F.held shelf.new ≡ Some after)
         × LeavesFile files after name.now (file_of (contents index.now)) fault)) }
     ensures leaves_out { IfErr result (λ fault. IfSome (O.written out.old) (λ before. (after : List ℕ) × (O.written out.new ≡ Some after)
-        × LeavesLine before after (line_of (contents index.now)) fault)) }
+        × LeavesLine (Rose (O.wants out.old) (O.wants out.new)) before after (line_of (contents index.now)) fault)) }
     ensures in_order { OnErr result (IfSome (F.held shelf.old) (λ files. IsInOrder files (F.held shelf.new) name.now (file_of (contents index.now)) (O.written out.old) (O.written out.new))) }
     ensures reads { NoneFell (F.read_faults shelf.old) (F.read_faults shelf.new) }
 {
@@ -229,6 +229,8 @@ pub(crate) fn build<R: Threads + Sync, F: Shelf, O: Out, G: Gate + Sync>(
     ensures leaves_out { IfErr result (λ fault. IfSome (F.held shelf.old) (λ files. IfSome (O.written out.old) (λ before. (after : List ℕ) × (O.written out.new ≡ Some after)
         × LeavesOut (Builds request.now.base.now request.now.index.now request.now.options) (Rose (O.wants out.old) (O.wants out.new)) files before after fault))) }
     ensures in_order { OnErr result (IfSome (F.held shelf.old) (λ files. WritesInOrder (Builds request.now.base.now request.now.index.now request.now.options) files (F.held shelf.new) (O.written out.old) (O.written out.new))) }
+    ensures only_accepted { IfSome (F.held shelf.old) (λ files. WritesIfAccepted (Builds request.now.base.now request.now.index.now request.now.options) files (F.held shelf.new) (O.written out.old) (O.written out.new)) }
+    ensures as_found { IfErr result (λ fault. IsBeforeWriting fault → (F.held shelf.new ≡ F.held shelf.old) × (O.written out.new ≡ O.written out.old)) }
 {
     let index = match prepared(
         rt,

@@ -8,11 +8,11 @@ ghost use Rattle.graph_files.specs.View.{contents};
 ghost use Rattle.graph_files.specs.WellFormed.{IsWellFormed};
 ghost use Rattle.steal_pool.specs.Work.{AllServe};
 ghost use Rattle.batch_search.specs.Answers.{answers_of, round_size};
-ghost use Rattle.batch_search.specs.Serving.{Serves};
+ghost use Rattle.beam_search.specs.Serving.{Serves};
 ghost use Rattle.annbuild_words.specs.Asked.{AreQueriesInRange};
 ghost use Rattle.annbuild_words.specs.Asked.Command.{Queries as Queried};
 ghost use Rattle.annbuild_commands.specs.Querying.{lines_from, unfit_in, round_answers, all_answers, LeavesLines, LeavesRound, IsOfAnswering};
-ghost use Rattle.annbuild_commands.specs.Commands.{Stores, Prints, refusal, Tells, HasCause, Leaves, LeavesOut};
+ghost use Rattle.annbuild_commands.specs.Commands.{Stores, Prints, refusal, Tells, HasCause, Leaves, LeavesOut, WritesIfAccepted, IsBeforeWriting};
 
 use crate::faults::write_fault;
 use crate::inputs::{Inputs, read_inputs};
@@ -20,14 +20,11 @@ use crate::lines::print_answers;
 use ann_defs::Near;
 use ann_shelf::{Gate, NoMemory, Out, Shelf};
 use annbuild_words::{Fault, PoolKind, QueryOptions, QueryRequest, Role, query_line_bytes};
-use batch_search::{QueryBatch, answer_round, posts_for};
+use batch_search::{MAX_TASKS, QueryBatch, answer_round, posts_for};
 use beam_search::Scratch;
 use std::alloc::Global;
 use std::thread::Threads;
 use steal_pool::{Post, RayonRounds, Rounds, SerialRounds, StealRounds};
-
-/// The greatest number of queries in a round.
-const MAX_TASKS: u32 = 4096;
 
 /// Answers one round of queries and prints their lines. The answer is the number of the next query.
 fn answer_next<R: Threads + Sync, P: Rounds, O: Out, G: Gate + Sync>(
@@ -228,6 +225,8 @@ pub(crate) fn query<R: Threads + Sync, F: Shelf, O: Out, G: Gate + Sync>(
         × Leaves (Queried request.now.base.now request.now.index.now request.now.queries.now request.now.options) files after fault)) }
     ensures leaves_out { IfErr result (λ fault. IfSome (F.held shelf.old) (λ files. IfSome (O.written out.old) (λ before. (after : List ℕ) × (O.written out.new ≡ Some after)
         × LeavesOut (Queried request.now.base.now request.now.index.now request.now.queries.now request.now.options) (Rose (O.wants out.old) (O.wants out.new)) files before after fault))) }
+    ensures only_accepted { IfSome (F.held shelf.old) (λ files. WritesIfAccepted (Queried request.now.base.now request.now.index.now request.now.queries.now request.now.options) files (F.held shelf.new) (O.written out.old) (O.written out.new)) }
+    ensures as_found { IfErr result (λ fault. IsBeforeWriting fault → (F.held shelf.new ≡ F.held shelf.old) × (O.written out.new ≡ O.written out.old)) }
 {
     let inputs = match read_inputs(alloc, request, shelf) {
         Ok(inputs) => inputs,

@@ -4,7 +4,7 @@ ghost use Rattle.ann_shelf.specs.Faults.{Rose};
 ghost use Rattle.ann_shelf.specs.Files.{Files};
 ghost use Rattle.annbuild_words.specs.Asked.{command_of, IsInRange};
 ghost use Rattle.annbuild_words.specs.Asked.Meaning.{Means};
-ghost use Rattle.annbuild_commands.specs.Commands.{Stores, Prints, refusal, Tells, HasCause, Leaves, LeavesOut, WritesInOrder};
+ghost use Rattle.annbuild_commands.specs.Commands.{Stores, Prints, refusal, Tells, HasCause, Leaves, LeavesOut, WritesInOrder, WritesIfAccepted, IsBeforeWriting};
 
 use crate::build::build;
 use crate::query::query;
@@ -35,6 +35,8 @@ pub(crate) fn answer<R: Threads + Sync, F: Shelf, O: Out, G: Gate + Sync>(
     ensures leaves_out { IfErr result (λ fault. IfSome (F.held shelf.old) (λ files. IfSome (O.written out.old) (λ before. (after : List ℕ) × (O.written out.new ≡ Some after)
         × LeavesOut (command_of request.now) (Rose (O.wants out.old) (O.wants out.new)) files before after fault))) }
     ensures in_order { OnErr result (IfSome (F.held shelf.old) (λ files. WritesInOrder (command_of request.now) files (F.held shelf.new) (O.written out.old) (O.written out.new))) }
+    ensures only_accepted { IfSome (F.held shelf.old) (λ files. WritesIfAccepted (command_of request.now) files (F.held shelf.new) (O.written out.old) (O.written out.new)) }
+    ensures as_found { IfErr result (λ fault. IsBeforeWriting fault → (F.held shelf.new ≡ F.held shelf.old) × (O.written out.new ≡ O.written out.old)) }
 {
     match parse_by_clap(alloc, request) {
         Ok(parsed) => done(rt, alloc, &parsed.request(), shelf, out, gate),
@@ -62,6 +64,8 @@ fn done<R: Threads + Sync, F: Shelf, O: Out, G: Gate + Sync>(
     ensures leaves_out { IfErr result (λ fault. IfSome (F.held shelf.old) (λ files. IfSome (O.written out.old) (λ before. (after : List ℕ) × (O.written out.new ≡ Some after)
         × LeavesOut (command_of request.now) (Rose (O.wants out.old) (O.wants out.new)) files before after fault))) }
     ensures in_order { OnErr result (IfSome (F.held shelf.old) (λ files. WritesInOrder (command_of request.now) files (F.held shelf.new) (O.written out.old) (O.written out.new))) }
+    ensures only_accepted { IfSome (F.held shelf.old) (λ files. WritesIfAccepted (command_of request.now) files (F.held shelf.new) (O.written out.old) (O.written out.new)) }
+    ensures as_found { IfErr result (λ fault. IsBeforeWriting fault → (F.held shelf.new ≡ F.held shelf.old) × (O.written out.new ≡ O.written out.old)) }
 {
     match request {
         Request::Build(request) => build(rt, alloc, request, shelf, out, gate),

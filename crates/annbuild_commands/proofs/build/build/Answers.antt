@@ -1,12 +1,12 @@
-use Rattle.std.proofs.Common.{subst}
+use Rattle.std.proofs.Common.{◌∙◌, subst, refl, inl, inr}
 use Rattle.bin_files.proofs.Pieces.{told_then, both_told}
 use Rattle.ann_shelf.specs.Files.{bytes_of}
 use Rattle.ann_shelf.specs.Faults.{Rose}
 use Rattle.graph_files.specs.View.{contents}
 use Rattle.annbuild_words.specs.Asked.Command.{Builds}
 use Rattle.annbuild_commands.specs.IndexOf.{file_of, line_of}
-use Rattle.annbuild_commands.specs.Building.{LeavesFile, LeavesLine, IsInOrder, index_text}
-use Rattle.annbuild_commands.proofs.Ends.{leaves_same, built_from, told_from, told_same, tells_write, cause_more, rose_later}
+use Rattle.annbuild_commands.specs.Building.{LeavesFile, LeavesLine, IsInOrder, index_text, index_line}
+use Rattle.annbuild_commands.proofs.Ends.{leaves_same, line_same, built_from, told_from, told_same, told_here, tells_write, cause_more, rose_later, not_before}
 use Rattle.annbuild_commands.proofs.build.build.Goals as goal
 
 pub returns-in-Err-clause-leaves : goal.returns-in-Err-clause-leaves
@@ -54,4 +54,28 @@ pub returns-clause-leaves_out : goal.returns-clause-leaves_out
 returns-clause-leaves_out g c =
     told_then (g.F.Shelf.held c.args.shelf.now) c.in-Ok.ensures.index (λ files is.
     told_then (g.O.Out.written c.args.out.now) c.in-Err-written.ensures.leaves_out (λ before left.
-    (left.0, left.1, subst (λ i. LeavesLine before left.0 (line_of i) c.in-Err-written.fault) is.3 left.2)))
+    (left.0, left.1, subst (λ i. LeavesLine (Rose (g.O.Out.wants c.args.out.now) (g.O.Out.wants c.written.new.out)) before left.0 (line_of i) c.in-Err-written.fault) is.3 left.2)))
+
+pub returns-in-Err-clause-leaves_out : goal.returns-in-Err-clause-leaves_out
+returns-in-Err-clause-leaves_out g c = told_here (g.F.Shelf.held c.args.shelf.now) (λ files held. told_here (g.O.Out.written c.args.out.now) (λ before is. (
+  before,
+  is,
+  line_same c.args.request.now.base.now c.args.request.now.index.now c.args.request.now.options
+      (λ name. Rose (g.F.Shelf.read_faults c.args.shelf.now name) (g.F.Shelf.read_faults c.prepared.new.shelf name)) (Rose (g.O.Out.wants c.args.out.now) (g.O.Out.wants c.args.out.now)) before
+      (index_line (bytes_of files c.args.request.now.base.now) c.args.request.now.options) c.in-Err.fault c.in-Err.ensures.cause,
+)))
+
+pub returns-in-Err-clause-only_accepted : goal.returns-in-Err-clause-only_accepted
+returns-in-Err-clause-only_accepted g c = told_here (g.F.Shelf.held c.args.shelf.now) (λ files is. inr (c.in-Err.ensures.same ∙ is, refl))
+
+pub returns-in-Err-clause-as_found : goal.returns-in-Err-clause-as_found
+returns-in-Err-clause-as_found g c = λ b. (c.in-Err.ensures.same, refl)
+
+pub returns-in-Ok-written-clause-only_accepted : goal.returns-in-Ok-written-clause-only_accepted
+returns-in-Ok-written-clause-only_accepted g c = told_then (g.F.Shelf.held c.args.shelf.now) c.in-Ok.ensures.index (λ files is. inl is.0)
+
+pub returns-clause-only_accepted : goal.returns-clause-only_accepted
+returns-clause-only_accepted g c = told_then (g.F.Shelf.held c.args.shelf.now) c.in-Ok.ensures.index (λ files is. inl is.0)
+
+pub returns-clause-as_found : goal.returns-clause-as_found
+returns-clause-as_found g c = λ b. absurd (not_before c.in-Err-written.fault c.in-Err-written.ensures.writing b)

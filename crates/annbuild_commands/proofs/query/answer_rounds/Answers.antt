@@ -1,4 +1,4 @@
-use Rattle.std.proofs.Common.{◌≡◌, ◌∙◌, ◌≤◌, ◌++◌, ap, sym, subst, refl, arith, length, List, ℕ, Some}
+use Rattle.std.proofs.Common.{◌≡◌, ◌∙◌, ◌<◌, ◌≤◌, ◌++◌, ap, sym, subst, refl, arith, length, List, ℕ, Some}
 use Rattle.std.specs.Prelude.{take}
 use Rattle.std.proofs.lemmas.List.{take_all}
 use Rattle.ann_shelf.specs.Faults.{Rose}
@@ -35,7 +35,7 @@ returns-in-Err-clause-cause g c = answering_more _ _ c.in-Err.fault (rose_later 
 pub returns-in-Err-clause-leaves : goal.returns-in-Err-clause-leaves
 returns-in-Err-clause-leaves g c =
     let size = round_size (length c.args.batch.now.queries.now.vectors) c.loop-from.from in
-    let short : c.loop-from.from ≤ length (all_answers c.args.batch.now) = omega (arith, c.loop-from.invariant.within, all_length c.args.batch.now) in
+    let less : c.loop-from.from < length (all_answers c.args.batch.now) = omega (arith, c.loop-from-test.true, c.count-count.ensures.value, all_length c.args.batch.now) in
     told_then (g.O.Out.written c.args.out.now)
     (told_on (λ before. before ++ lines_from 0 (take c.loop-from.from (all_answers c.args.batch.now)))
     (λ before. (after : List ℕ) × (g.O.Out.written c.answer_next.new.out ≡ Some after) × LeavesRound (Rose (g.O.Out.wants c.loop-from.out) (g.O.Out.wants c.answer_next.new.out)) before after (lines_from c.loop-from.from (round_answers c.args.batch.now c.loop-from.from)) c.in-Err.fault)
@@ -43,7 +43,7 @@ returns-in-Err-clause-leaves g c =
     (λ before left. (
       left.0,
       left.1,
-      round_leaves _ _ before left.0 (all_answers c.args.batch.now) c.loop-from.from size c.in-Err.fault short (rose_later _ _ _ c.loop-from.invariant.wants)
+      round_leaves _ _ before left.0 (all_answers c.args.batch.now) c.loop-from.from size c.in-Err.fault less (rose_later _ _ _ c.loop-from.invariant.wants)
           (subst (λ a. LeavesRound (Rose (g.O.Out.wants c.loop-from.out) (g.O.Out.wants c.answer_next.new.out)) (before ++ lines_from 0 (take c.loop-from.from (all_answers c.args.batch.now))) left.0 (lines_from c.loop-from.from a) c.in-Err.fault) (round_is c.args.batch.now c.loop-from.from) left.2),
     ))
 

@@ -1,7 +1,7 @@
 use Rattle.std.proofs.Common.{◌≡◌, ◌++◌, ◌≤◌, ◌-◌, Some, IfSome, vec_capacity, length}
 use Rattle.std.specs.Prelude.{take}
 use Rattle.steal_pool.specs.Work.{AllServe}
-use Rattle.batch_search.specs.Serving.{Serves}
+use Rattle.beam_search.specs.Serving.{Serves}
 use Rattle.annbuild_commands.specs.Querying.{lines_from, all_answers}
 use Rattle.annbuild_commands.proofs.query.answer_rounds.Given as goal
 

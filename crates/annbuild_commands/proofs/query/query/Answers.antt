@@ -1,11 +1,11 @@
-use Rattle.std.proofs.Common.{◌≡◌, ◌∙◌, ◌++◌, ap, sym, subst, refl, Some}
+use Rattle.std.proofs.Common.{◌≡◌, ◌∙◌, ◌++◌, ap, sym, subst, refl, inl, inr, Some}
 use Rattle.bin_files.proofs.Pieces.{told_then}
 use Rattle.ann_shelf.specs.Files.{bytes_of}
 use Rattle.ann_shelf.specs.Faults.{Rose}
 use Rattle.graph_files.specs.View.{contents}
 use Rattle.annbuild_words.specs.Asked.Command.{Queries as Queried}
 use Rattle.annbuild_commands.specs.Querying.{answers_in, lines_from, LeavesLines}
-use Rattle.annbuild_commands.proofs.Ends.{lines_same, told_same, told_stays, told_here, cause_more, cause_answering, tells_answering}
+use Rattle.annbuild_commands.proofs.Ends.{lines_same, told_same, told_stays, told_here, cause_more, cause_answering, tells_answering, not_before_answering}
 use Rattle.annbuild_commands.proofs.QueryFacts.{query_told}
 use Rattle.annbuild_commands.proofs.query.query.Goals as goal
 
@@ -65,3 +65,22 @@ returns-clause-leaves_out g c = told_then (g.F.Shelf.held c.args.shelf.now) (que
       left.1,
       subst (λ a. LeavesLines (Rose (g.O.Out.wants c.args.out.now) (g.O.Out.wants c.answered.new.out)) before left.0 a c.in-Err-answered.fault) (sym fact.answers) left.2,
     )))
+
+pub returns-in-Err-clause-only_accepted : goal.returns-in-Err-clause-only_accepted
+returns-in-Err-clause-only_accepted g c = told_here (g.F.Shelf.held c.args.shelf.now) (λ files is. inr (c.in-Err.ensures.same ∙ is, refl))
+
+pub returns-in-Err-clause-as_found : goal.returns-in-Err-clause-as_found
+returns-in-Err-clause-as_found g c = λ b. (c.in-Err.ensures.same, refl)
+
+pub returns-in-Ok-answered-clause-only_accepted : goal.returns-in-Ok-answered-clause-only_accepted
+returns-in-Ok-answered-clause-only_accepted g c = told_then (g.F.Shelf.held c.args.shelf.now) (query_told (g.F.Shelf.held c.args.shelf.now) c.args.request.now.base.now c.args.request.now.index.now c.args.request.now.queries.now
+    c.in-Ok.inputs.points.vectors c.in-Ok.inputs.queries.vectors (contents c.in-Ok.inputs.index) c.args.request.now.options
+    c.in-Ok.ensures.points c.in-Ok.ensures.index c.in-Ok.ensures.queries c.in-Ok.ensures.fit) (λ files fact. inl fact.accepted)
+
+pub returns-clause-only_accepted : goal.returns-clause-only_accepted
+returns-clause-only_accepted g c = told_then (g.F.Shelf.held c.args.shelf.now) (query_told (g.F.Shelf.held c.args.shelf.now) c.args.request.now.base.now c.args.request.now.index.now c.args.request.now.queries.now
+    c.in-Ok.inputs.points.vectors c.in-Ok.inputs.queries.vectors (contents c.in-Ok.inputs.index) c.args.request.now.options
+    c.in-Ok.ensures.points c.in-Ok.ensures.index c.in-Ok.ensures.queries c.in-Ok.ensures.fit) (λ files fact. inl fact.accepted)
+
+pub returns-clause-as_found : goal.returns-clause-as_found
+returns-clause-as_found g c = λ b. absurd (not_before_answering (Rose (g.O.Out.faults c.args.out.now) (g.O.Out.faults c.answered.new.out)) c.in-Err-answered.fault c.in-Err-answered.ensures.cause b)

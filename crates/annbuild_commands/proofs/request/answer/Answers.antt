@@ -1,9 +1,9 @@
-use Rattle.std.proofs.Common.{◌≡◌, ◌∙◌, Some, IfSome, subst, List, ℕ}
+use Rattle.std.proofs.Common.{◌≡◌, ◌∙◌, Some, IfSome, subst, refl, inr, List, ℕ}
 use Rattle.std.specs.Prelude.{IfErr}
 use Rattle.ann_shelf.specs.Faults.{Rose}
 use Rattle.ann_shelf.specs.Files.{Files}
 use Rattle.annbuild_words.specs.Asked.{command_of}
-use Rattle.annbuild_commands.specs.Commands.{Leaves, LeavesOut}
+use Rattle.annbuild_commands.specs.Commands.{Leaves, LeavesOut, WritesIfAccepted}
 use Rattle.annbuild_commands.proofs.Ends.{told_here, none_leaves, none_out, none_order}
 use Rattle.annbuild_commands.proofs.request.answer.Goals as goal
 
@@ -25,3 +25,10 @@ pub returns-in-Ok-clause-leaves_out : goal.returns-in-Ok-clause-leaves_out
 returns-in-Ok-clause-leaves_out g c = subst (λ m. IfErr c.done.result (λ fault. IfSome (g.F.Shelf.held c.args.shelf.now) (λ files. IfSome (g.O.Out.written c.args.out.now) (λ before. (after : List ℕ) × (g.O.Out.written c.done.new.out ≡ Some after)
     × LeavesOut m (Rose (g.O.Out.wants c.args.out.now) (g.O.Out.wants c.done.new.out)) files before after fault))))
     (c.request.ensures ∙ c.in-Ok.ensures) c.done.ensures.leaves_out
+
+pub returns-in-Err-clause-only_accepted : goal.returns-in-Err-clause-only_accepted
+returns-in-Err-clause-only_accepted g c = told_here (g.F.Shelf.held c.args.shelf.now) (λ files is. inr (is, refl))
+
+pub returns-in-Ok-clause-only_accepted : goal.returns-in-Ok-clause-only_accepted
+returns-in-Ok-clause-only_accepted g c = subst (λ m. IfSome (g.F.Shelf.held c.args.shelf.now) (λ files. WritesIfAccepted m files (g.F.Shelf.held c.done.new.shelf) (g.O.Out.written c.args.out.now) (g.O.Out.written c.done.new.out)))
+    (c.request.ensures ∙ c.in-Ok.ensures) c.done.ensures.only_accepted
