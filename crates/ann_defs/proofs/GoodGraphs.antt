@@ -1,6 +1,6 @@
 -- Good rows make a graph that a search can go through, and a batch keeps them good.
 use Rattle.std.proofs.Common.{◌≡◌, ◌≢◌, ℕ, zero, suc, ◌<◌, Bool, true, false, cond, List, [], ◌∷◌, ◌++◌, length, refl, sym, subst, inl, inr, arith}
-use Rattle.std.specs.Prelude.{◌==◌, ◌&&◌, nat_eq, nat_lt}
+use Rattle.std.specs.Prelude.{◌==◌, ◌&&◌, ◌+◌, ◌%◌, nat_eq, nat_lt}
 use Rattle.std.specs.List.{All, IsDistinct, range_with_len}
 use Rattle.std.proofs.lemmas.Bool.{ltb-true, lt-ltb}
 use Rattle.std.proofs.lemmas.List.{length-replicate, get_or-replicate}
@@ -10,9 +10,10 @@ use Rattle.ann_defs.specs.declared.near.Near.{Near}
 use Rattle.ann_defs.specs.Distance.{point}
 use Rattle.ann_defs.specs.Ordered.{Has}
 use Rattle.ann_defs.specs.Nearness.{ids_of}
-use Rattle.ann_defs.specs.Graph.{has, row_in, IsGraph, IsGoodRow, AreGoodRows}
+use Rattle.ann_defs.specs.Graph.{has, without, row_in, IsGraph, IsGoodRow, AreGoodRows}
 use Rattle.ann_defs.specs.GreedySearch.{search_of, start_of, visited_of}
-use Rattle.ann_defs.specs.BatchInsert.{Build, new_row_of, merged_row_of, row_after, with_new_rows, sources_of, last_row_of, batch_step, graph_after, batch_at}
+use Rattle.ann_defs.specs.RobustPrune.{pruned_row}
+use Rattle.ann_defs.specs.BatchInsert.{Build, merge_with, laid_row, sources_to, row_then, new_row_of, row_after, last_row_of, batch_step, at_batch, graph_after, batch_at, total_of}
 use Rattle.ann_defs.proofs.Order.{has-map, All_has}
 use Rattle.ann_defs.proofs.Members.{all_from_has, has-append, filter_has, has_true, distinct_once, Once-filter, and_both, range_has, range_once}
 use Rattle.ann_defs.proofs.SearchStates.{IsSound, sound_start, sound_walk}
@@ -44,30 +45,51 @@ visited_below points degree rows query beam start good at u h =
     let from = has-map (λ (y : Near). y.id) (visited_of points (row_in rows) query beam (start ∷ [])) u h in
     subst (λ (v : ℕ). v < n) from.2 (ltb-true from.0.id n (sound.visited_right from.0 from.1).0)
 
+-- a batch over good rows, whose new rows are good, with a prune that gives good rows
+module _ (n bound : ℕ) (old fresh : ℕ → List ℕ) (batch : ℕ → Bool) (prune : ℕ → List ℕ → List ℕ) where
+  abbrev merged : ℕ → List ℕ → List ℕ → List ℕ
+  merged = merge_with prune bound
+
+  abbrev proposes : ℕ → ℕ → Bool
+  proposes t p = batch p && has (fresh p) t
+
+  -- the sources of a target are distinct points
+  pub sources_inside : (t : ℕ) → All (λ v. v < n) (sources_to n old fresh batch merged t)
+  sources_inside t = all_from_has (λ v. v < n) (sources_to n old fresh batch merged t) (λ p h. let within = range_has 0 n p (filter_has (proposes t) (range_with_len 0 n) p h).0 in omega (arith, within.1))
+
+  pub sources_distinct : (t : ℕ) → IsDistinct nat_eq (sources_to n old fresh batch merged t)
+  sources_distinct t = distinct_once (sources_to n old fresh batch merged t) (Once-filter (proposes t) (range_with_len 0 n) (range_once 0 n))
+
+  module _ (fresh_good : (u : ℕ) → u < n → batch u ≡ true → IsGoodRow n bound u (fresh u)) where
+    -- and other than the target, since no new row holds its own point
+    pub sources_others : (t : ℕ) → t < n → All (λ v. v ≢ t) (sources_to n old fresh batch merged t)
+    sources_others t at = all_from_has (λ v. v ≢ t) (sources_to n old fresh batch merged t) (λ p h e.
+        let passed = and_both (batch p) (has (fresh p) t) (filter_has (proposes t) (range_with_len 0 n) p h).1 in
+        let own : batch t ≡ true = subst (λ (w : ℕ). batch w ≡ true) e passed.0 in
+        All_has (λ v. v ≢ t) (fresh t) t (fresh_good t at own).others (has_true (fresh t) t (subst (λ (w : ℕ). has (fresh w) t ≡ true) e passed.1)) refl)
+
+    module _ (old_good : (u : ℕ) → u < n → IsGoodRow n bound u (old u)) where
+      pub laid_good : (u : ℕ) → u < n → IsGoodRow n bound u (laid_row n old fresh batch merged u)
+      laid_good u at =
+          elim (batch u) as (λ c. batch u ≡ c → IsGoodRow n bound u (cond c (fresh u) (old u))) [ true ↦ λ e. fresh_good u at e | false ↦ λ _. old_good u at ] refl
+
+      -- the row of each point after the batch is good
+      pub row_then_good : ((t : ℕ) (set : List ℕ) → ((u : ℕ) → Has set u → u < n) → IsGoodRow n bound t (prune t (without t set)))
+          → (t : ℕ) → t < n → IsGoodRow n bound t (row_then n old fresh batch merged t)
+      row_then_good prunes t at =
+          let sources = sources_to n old fresh batch merged t in
+          let laid = laid_row n old fresh batch merged t in
+          elim (length sources == 0) as (λ c. IsGoodRow n bound t (cond c laid (merged t laid sources))) [
+            | true ↦ laid_good t at
+            | false ↦ merged_good n bound t bound prune laid sources (prunes t) (laid_good t at) (sources_inside t) (sources_distinct t) (sources_others t at)
+          ]
+
 module _ (b : Build) where
   abbrev n : ℕ
   n = length b.points
 
-  module _ (changed : List (List ℕ)) (batch : List ℕ) where
-    abbrev proposes : ℕ → ℕ → Bool
-    proposes t p = has batch p && has (row_in changed p) t
-
-    -- the sources of a target are distinct points
-    pub sources_inside : (t : ℕ) → All (λ v. v < n) (sources_of b changed batch t)
-    sources_inside t = all_from_has (λ v. v < n) (sources_of b changed batch t) (λ p h. let within = range_has 0 n p (filter_has (proposes t) (range_with_len 0 n) p h).0 in omega (arith, within.1))
-
-    pub sources_distinct : (t : ℕ) → IsDistinct nat_eq (sources_of b changed batch t)
-    sources_distinct t = distinct_once (sources_of b changed batch t) (Once-filter (proposes t) (range_with_len 0 n) (range_once 0 n))
-
-    module _ (good : AreGoodRows n b.degree changed) where
-      -- and in a good graph other than the target
-      pub sources_others : (t : ℕ) → t < n → All (λ v. v ≢ t) (sources_of b changed batch t)
-      sources_others t at = all_from_has (λ v. v ≢ t) (sources_of b changed batch t) (λ p h e.
-          let passed = (and_both (has batch p) (has (row_in changed p) t) (filter_has (proposes t) (range_with_len 0 n) p h).1).1 in
-          All_has (λ v. v ≢ t) (row_in changed t) t (good.good t at).others (has_true (row_in changed t) t (subst (λ (w : ℕ). has (row_in changed w) t ≡ true) e passed)) refl)
-
-      pub merged_row_good : (t : ℕ) → t < n → IsGoodRow n b.degree t (merged_row_of b t (row_in changed t) (sources_of b changed batch t))
-      merged_row_good t at = merged_good b n t b.degree (row_in changed t) (sources_of b changed batch t) (good.good t at) (sources_inside t) (sources_distinct t) (sources_others t at)
+  abbrev prune : ℕ → List ℕ → List ℕ
+  prune t set = pruned_row b.points t set b.num b.den b.degree
 
   module _ (starts : b.start < length b.points) where
     module _ (rows : List (List ℕ)) (good : AreGoodRows n b.degree rows) where
@@ -82,39 +104,30 @@ module _ (b : Build) where
           ])
 
       module _ (batch : List ℕ) where
+        -- the row of each point once the batch has its new rows, and after the batch
         pub row_after_good : (u : ℕ) → u < n → IsGoodRow n b.degree u (row_after b rows batch u)
-        row_after_good u at =
-            elim (has batch u) as (λ t. IsGoodRow n b.degree u (cond t (new_row_of b rows u) (row_in rows u))) [ true ↦ new_row_good u at | false ↦ good.good u at ]
+        row_after_good = laid_good n b.degree (row_in rows) (new_row_of b rows) (has batch) prune (λ u at _. new_row_good u at) good.good
 
-        pub with_new_rows_good : AreGoodRows n b.degree (with_new_rows b rows batch)
-        with_new_rows_good = record {
-          count = length-map-range_with_len (row_after b rows batch) 0 n;
-          good = λ u at. subst (IsGoodRow n b.degree u) (sym (get_or-map-range_with_len (row_after b rows batch) 0 n u u [] at (omega arith))) (row_after_good u at);
-        }
-
-        -- the row of each point after the batch
-        pub final_row_good : (t : ℕ) → t < n → IsGoodRow n b.degree t (last_row_of b rows batch t)
-        final_row_good t at =
-            let changed = with_new_rows b rows batch in
-            elim (length (sources_of b changed batch t) == 0) as (λ c. IsGoodRow n b.degree t (cond c (row_in changed t) (merged_row_of b t (row_in changed t) (sources_of b changed batch t)))) [
-              | true ↦ with_new_rows_good.good t at
-              | false ↦ merged_row_good changed batch with_new_rows_good t at
-            ]
+        pub last_row_good : (t : ℕ) → t < n → IsGoodRow n b.degree t (last_row_of b rows batch t)
+        last_row_good = row_then_good n b.degree (row_in rows) (new_row_of b rows) (has batch) prune (λ u at _. new_row_good u at) good.good
+            (λ t set inside. prune_without_good b.points t set b.num b.den b.degree n inside)
 
         pub batch_step_good : AreGoodRows n b.degree (batch_step b rows batch)
         batch_step_good = record {
           count = length-map-range_with_len (last_row_of b rows batch) 0 n;
-          good = λ u at. subst (IsGoodRow n b.degree u) (sym (get_or-map-range_with_len (last_row_of b rows batch) 0 n u u [] at (omega arith))) (final_row_good u at);
+          good = λ u at. subst (IsGoodRow n b.degree u) (sym (get_or-map-range_with_len (last_row_of b rows batch) 0 n u u [] at (omega arith))) (last_row_good u at);
         }
 
-    none_good : (u : ℕ) → IsGoodRow n b.degree u []
-    unfolding IsDistinct
-    none_good u = record { inside = All-nil (λ v. v < n); distinct = tt; others = All-nil (λ v. v ≢ u); short = omega arith }
+none_good : (n degree u : ℕ) → IsGoodRow n degree u []
+unfolding IsDistinct
+none_good n degree u = record { inside = All-nil (λ v. v < n); distinct = tt; others = All-nil (λ v. v ≢ u); short = omega arith }
 
-    -- the graph after any number of batches is good
-    pub graph_after_good : (order : List ℕ) (cap k : ℕ) → AreGoodRows n b.degree (graph_after b order cap k)
-    graph_after_good order cap zero = record {
-      count = length-replicate n [];
-      good = λ u at. subst (IsGoodRow n b.degree u) (sym (get_or-replicate n u [] [] at)) (none_good u);
-    }
-    graph_after_good order cap (suc k) = batch_step_good (graph_after b order cap k) (graph_after_good order cap k) (batch_at order cap (suc k))
+-- the graph after any number of batches is good
+pub graph_after_good : (b : Build) → b.start < length b.points → (order : List ℕ) (cap k : ℕ) → AreGoodRows (length b.points) b.degree (graph_after b order cap k)
+graph_after_good b starts order cap zero = record {
+  count = length-replicate (length b.points) [];
+  good = λ u at. subst (IsGoodRow (length b.points) b.degree u) (sym (get_or-replicate (length b.points) u [] [] at)) (none_good (length b.points) b.degree u);
+}
+graph_after_good b starts order cap (suc k) =
+    let pass = total_of (length order) cap in
+    batch_step_good (at_batch b pass (suc k)) starts (graph_after b order cap k) (graph_after_good b starts order cap k) (batch_at order cap (k % pass + 1))

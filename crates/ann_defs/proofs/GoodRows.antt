@@ -13,7 +13,7 @@ use Rattle.ann_defs.specs.Ordered.{ordered}
 use Rattle.ann_defs.specs.Nearness.{near_cmp, near_of, all_near, ids_of}
 use Rattle.ann_defs.specs.RobustPrune.{kept, stays, pruned_row}
 use Rattle.ann_defs.specs.Graph.{has, without}
-use Rattle.ann_defs.specs.BatchInsert.{Build, merged_row_of}
+use Rattle.ann_defs.specs.BatchInsert.{merge_with}
 use Rattle.ann_defs.specs.Ordered.{Has, Rises}
 use Rattle.ann_defs.proofs.Order.{Rises-fold_put, fold_has, has-map, All_has, below_has}
 use Rattle.ann_defs.proofs.NearOrder.{near_order}
@@ -117,17 +117,18 @@ added_once row sources h k =
     Once-append row (filter (λ s. not (has row s)) sources) (once_distinct row h) (Once-filter (λ s. not (has row s)) sources (once_distinct sources k))
     (λ z a b. true≢false (sym (true_has row z a) ∙ not-true (has row z) (filter_has (λ s. not (has row s)) sources z b).1))
 
--- a merge keeps a row good
-pub merged_good : (b : Build) (n t degree : ℕ) (row sources : List ℕ) → IsGoodRow n degree t row → All (λ v. v < n) sources → IsDistinct nat_eq sources → All (λ v. v ≢ t) sources → IsGoodRow n b.degree t (merged_row_of b t row sources)
-merged_good b n t degree row sources g inside distinct others =
+-- a merge keeps a row good, by any prune that gives good rows
+pub merged_good : (n bound t most : ℕ) (prune : ℕ → List ℕ → List ℕ) (row sources : List ℕ) → ((set : List ℕ) → ((u : ℕ) → Has set u → u < n) → IsGoodRow n bound t (prune t (without t set)))
+    → IsGoodRow n most t row → All (λ v. v < n) sources → IsDistinct nat_eq sources → All (λ v. v ≢ t) sources → IsGoodRow n bound t (merge_with prune bound t row sources)
+merged_good n bound t most prune row sources prunes g inside distinct others =
     let added = added_to row sources in
     let below : All (λ v. v < n) added = All-append (λ v. v < n) row (filter (λ s. not (has row s)) sources) g.inside (All-filter (λ s. not (has row s)) (λ v. v < n) sources inside) in
-    elim (nat_le (length added) b.degree) as (λ c. nat_le (length added) b.degree ≡ c → IsGoodRow n b.degree t (cond c added (pruned_row b.points t (without t added) b.num b.den b.degree))) [
+    elim (nat_le (length added) bound) as (λ c. nat_le (length added) bound ≡ c → IsGoodRow n bound t (cond c added (prune t (without t added)))) [
       | true ↦ λ e. record {
         inside = below;
         distinct = distinct_once added (added_once row sources g.distinct distinct);
         others = All-append (λ v. v ≢ t) row (filter (λ s. not (has row s)) sources) g.others (All-filter (λ s. not (has row s)) (λ v. v ≢ t) sources others);
-        short = leb-true (length added) b.degree e;
+        short = leb-true (length added) bound e;
       }
-      | false ↦ λ _. prune_without_good b.points t added b.num b.den b.degree n (λ u h. All_has (λ v. v < n) added u below h)
+      | false ↦ λ _. prunes added (λ u h. All_has (λ v. v < n) added u below h)
     ] refl

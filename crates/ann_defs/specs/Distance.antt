@@ -1,9 +1,12 @@
 -- Points, each a list of numbers below 256, and their squared Euclidean distance.
 use Rattle.std.specs.Prelude.{ℕ, ◌+◌, ◌-◌, ◌*◌, List, [], length, slice_index_or}
 use Rattle.std.specs.List.{zip, sum_by}
+use Rattle.ann_defs.specs.declared.kinds.Element.{Element}
 
--- a point set, as the vectors of its points by id
+-- a point set: what its stored numbers stand for, and the vectors of its points by id.
+-- A stored number s of I8 stands for s - 128, so distances over stored numbers are those over the numbers meant.
 pub record PointSet : Type 0 where
+  pub element : Element
   pub vectors : List (List ℕ)
 
 -- the square of the difference of two numbers

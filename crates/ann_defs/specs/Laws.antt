@@ -1,12 +1,12 @@
 -- What the definitions amount to, in the words of the published algorithms.
-use Rattle.std.specs.Prelude.{◌≡◌, ℕ, suc, ◌*◌, ◌<◌, Bool, true, not, ◌&&◌, ◌==◌, nat_lt, None, List, [], ◌∷◌, length}
+use Rattle.std.specs.Prelude.{◌≡◌, ℕ, suc, ◌<◌, Bool, true, not, ◌&&◌, ◌==◌, None, List, [], ◌∷◌, length}
 use Rattle.std.specs.List.{All, filter}
 use Rattle.ann_defs.specs.declared.near.Near.{Near}
 use Rattle.ann_defs.specs.Distance.{dist_of, point}
 use Rattle.ann_defs.specs.Nearness.{least, all_near}
 use Rattle.ann_defs.specs.Graph.{has, IsGraph, AreGoodRows}
 use Rattle.ann_defs.specs.GreedySearch.{search_of, next_of}
-use Rattle.ann_defs.specs.RobustPrune.{pruned_row}
+use Rattle.ann_defs.specs.RobustPrune.{spares, pruned_row}
 use Rattle.ann_defs.specs.BatchInsert.{Build, graph_after}
 
 -- in a graph of the points no found id is left to visit when a search is over
@@ -35,7 +35,7 @@ PruneSeesMembers = (points : List (List ℕ)) (p : ℕ) (xs ys : List ℕ) (num 
 
 -- whether x, which isn't c, is not removed by c
 abbrev pub outlives : List (List ℕ) → ℕ → ℕ → ℕ → ℕ → ℕ → Bool
-outlives points p num den c x = not (x == c) && nat_lt (den * dist_of (point points p) (point points x)) (num * dist_of (point points c) (point points x))
+outlives points p num den c x = not (x == c) && spares num den (dist_of (point points c) (point points x)) (dist_of (point points p) (point points x))
 
 -- the row of a set begins with the least candidate, and goes on with the row of those that it doesn't remove
 abbrev pub row_by_least : List (List ℕ) → ℕ → List ℕ → ℕ → ℕ → ℕ → List Near → List ℕ

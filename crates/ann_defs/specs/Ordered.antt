@@ -1,5 +1,5 @@
 -- The elements of a list in the order R, each once.
-use Rattle.std.specs.Prelude.{◌≡◌, ◌⊎◌, List, [], ◌∷◌}
+use Rattle.std.specs.Prelude.{◌≡◌, ◌⊎◌, ℕ, ◌<◌, List, [], ◌∷◌, length, slice_index}
 use Rattle.std.specs.List.{fold, AllByRecursion}
 use Rattle.std.specs.declared.cmp.Ordering.{Ordering}
 use Rattle.std.specs.declared.cmp.Ordering.TheVariants.{Less}
@@ -28,3 +28,7 @@ module _ {K : Type 0} (R : K → K → Ordering) where
   abbrev pub Rises : List K → Type 0
   Rises [] = Unit {0}
   Rises (x ∷ xs) = IsBelow x xs × Rises xs
+
+-- numbers that ascend: each is below those after it
+abbrev pub Ascends : List ℕ → Type 0
+Ascends ids = (j k : ℕ) → j < k → k < length ids → slice_index ids j < slice_index ids k

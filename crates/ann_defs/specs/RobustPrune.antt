@@ -10,9 +10,13 @@ use Rattle.ann_defs.specs.Distance.{dist_of, point}
 use Rattle.ann_defs.specs.Ordered.{ordered}
 use Rattle.ann_defs.specs.Nearness.{near_cmp, all_near, ids_of}
 
--- whether x stays beside c: num times its distance to c is more than den times its distance to the point
+-- whether a candidate is spared: num times its distance to a kept one is more than den times that to the point
+abbrev pub spares : (num den from_kept from_point : ℕ) → Bool
+spares num den from_kept from_point = nat_lt (den * from_point) (num * from_kept)
+
+-- whether x stays beside c
 abbrev pub stays : List (List ℕ) → ℕ → ℕ → ℕ → Near → Bool
-stays points num den c x = nat_lt (den * x.dist) (num * dist_of (point points c) (point points x.id))
+stays points num den c x = spares num den (dist_of (point points c) (point points x.id)) x.dist
 
 -- the first of the list, and then what is kept of those others that stay beside it, at most r
 abbrev pub kept : (ℕ → Near → Bool) → ℕ → List Near → List Near

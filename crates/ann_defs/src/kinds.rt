@@ -28,3 +28,23 @@ pub enum StartKind {
     /// At the medoid, which is then inserted first.
     Medoid,
 }
+
+/// What the bytes of a point stand for.
+#[derive(Clone, Copy, Debug, PartialEq, Eq)]
+pub enum Element {
+    /// A stored number is the number itself, 0 to 255.
+    U8,
+    /// A stored number is 128 more than the number, which is -128 to 127.
+    I8,
+}
+
+/// Who runs the tasks of a round. The results don't depend on it.
+#[derive(Clone, Copy, Debug, PartialEq, Eq)]
+pub enum Way {
+    /// One task after another, in the caller's thread, whatever the number of workers says.
+    Serial,
+    /// One fixed share of the tasks for each worker, in threads of `rayon`.
+    Shares,
+    /// Shares whose tasks the workers claim and steal from each other, in threads of std.
+    Stealing,
+}

@@ -9,12 +9,16 @@
 mod alpha;
 mod kinds;
 mod laws;
+mod limits;
 mod near;
 
 pub use alpha::Alpha;
-pub use kinds::{Kind, OrderKind, StartKind};
+pub use kinds::{Element, Kind, OrderKind, StartKind, Way};
 pub use laws::{
     graphs_stay_good, least_sees_members, prune_sees_members, prune_takes_least, search_ends,
     search_sees_members,
+};
+pub use limits::{
+    MAX_BEAM, MAX_CELLS, MAX_DEGREE, MAX_DIM, MAX_PAIRS, MAX_POINTS, MAX_WORDS, MAX_WORKERS,
 };
 pub use near::Near;
