@@ -1,10 +1,10 @@
 -- Files and outputs that grow piece by piece.
-use Rattle.std.proofs.Common.{◌≡◌, ℕ, ◌+◌, ◌-◌, arith, List, [], ◌++◌, take, drop, length, refl, sym, ap, subst, ◌∙◌, Option, Some, None, IfSome, unwrap_or, inl, inr, append_assoc}
+use Rattle.std.proofs.Common.{◌≡◌, ℕ, ◌+◌, ◌-◌, arith, List, [], ◌++◌, take, drop, length, refl, sym, ap, subst, ◌∙◌, Option, Some, None, IfSome, IsSome, Bool, cond, unwrap_or, append_assoc, append-nil}
 use Rattle.std.proofs.lemmas.List.{take_all, length-drop}
 use Rattle.std.proofs.Math.Seq.{take-add}
 use Rattle.ann_shelf.specs.declared.slip.Slip.{Slip}
 use Rattle.ann_shelf.specs.declared.slip.Slip.TheVariants.{Failed, NoMemory}
-use Rattle.ann_shelf.specs.Files.{Files, bytes_of, with_file, AddedSome, Grows, GrowsSome}
+use Rattle.ann_shelf.specs.Files.{Files, bytes_of, with_file, Grows}
 use Rattle.ann_shelf.specs.Written.{GotSome}
 use Rattle.ann_shelf.proofs.Names.{get_same, insert_same}
 
@@ -27,17 +27,28 @@ grows_on first old new name bytes rest done k left so_far more_raw files x is =
     subst (λ o. IfSome o (λ f. new ≡ Some (with_file f name (bytes_of f name ++ take k (drop done bytes))))) (so_far files x is) more in
     now ∙ ap Some (with_file-more files name (x ++ take done bytes) (take k (drop done bytes)) ∙ ap (with_file files name) (joined x bytes done k))
 
-pub grows_some : (first old new : Option Files) (name bytes rest : List ℕ) (done : ℕ) (slip : Slip) → rest ≡ drop done bytes → Grows first old name (take done bytes)
-    → (slip ≡ Failed → IfSome old (λ files. (after : Files) × (new ≡ Some after) × AddedSome files after name rest))
-    → (slip ≡ NoMemory → new ≡ old) → GrowsSome first new name bytes
-grows_some first old new name bytes rest done NoMemory left so_far failed no_memory files x is = (done, no_memory refl ∙ so_far files x is)
-grows_some first old new name bytes rest done Failed left so_far failed no_memory files x is =
-    let Told : List ℕ → Type 0 = λ r. IfSome old (λ f. (after : Files) × (new ≡ Some after) × AddedSome f after name r) in
-    let some = subst (λ o. IfSome o (λ f. (after : Files) × (new ≡ Some after) × AddedSome f after name (drop done bytes))) (so_far files x is) (subst Told left (failed refl)) in
-    elim some.2 [
-      | inl same ↦ (done, some.1 ∙ ap Some same)
-      | inr more ↦ (done + more.0, some.1 ∙ ap Some (more.1 ∙ with_file-more files name (x ++ take done bytes) (take more.0 (drop done bytes)) ∙ ap (with_file files name) (joined x bytes done more.0)))
-    ]
+pub grows_none : (files : Option Files) (name : List ℕ) → Grows files files name []
+grows_none files name held x is = is ∙ ap (λ b. Some (with_file held name b)) (sym (append-nil x))
+
+-- one piece after another
+pub grows_more : (a b c : Option Files) (name p q : List ℕ) → Grows a b name p → Grows b c name q → Grows a c name (p ++ q)
+grows_more a b c name p q first next files x is = next files (x ++ p) (first files x is) ∙ ap (λ t. Some (with_file files name t)) (append_assoc x p q)
+
+-- what is begun by a begin and appended by pieces
+pub grows_then : (a b c : Option Files) (name x piece : List ℕ) → IfSome a (λ files. b ≡ Some (with_file files name x)) → Grows b c name piece → IfSome a (λ files. c ≡ Some (with_file files name (x ++ piece)))
+grows_then None b c name x piece first next = tt
+grows_then (Some files) b c name x piece first next = next files x first
+
+-- what a finish leaves of a file that was begun and appended, where what is begun is told with what is held
+pub finished : (begun0 begun held0 held new : Option Files) (name text : List ℕ) → IfSome held0 (λ _. IsSome begun0)
+    → IfSome begun0 (λ files. begun ≡ Some (with_file files name text)) → held ≡ held0
+    → IfSome begun (λ b. IfSome held (λ files. new ≡ Some (with_file files name (bytes_of b name)))) → IfSome held0 (λ files. new ≡ Some (with_file files name text))
+finished begun0 begun None held new name text told whole same end = tt
+finished None begun (Some files) held new name text told whole same end = absurd (subst (λ (b : Bool). cond b ⊥ (Unit {0})) told tt)
+finished (Some begun0) begun (Some files) held new name text told whole same end =
+    let Told : Option Files → Type 0 = λ h. IfSome begun (λ b. IfSome h (λ files. new ≡ Some (with_file files name (bytes_of b name)))) in
+    subst (λ o. IfSome o (λ b. new ≡ Some (with_file files name (bytes_of b name)))) whole (subst Told same end)
+    ∙ ap (λ b. Some (with_file files name b)) (bytes_of-with_file begun0 name text)
 
 -- an output
 pub gets_on : (first old new : Option (List ℕ)) (bytes rest : List ℕ) (done k : ℕ) → rest ≡ drop done bytes → IfSome first (λ text. old ≡ Some (text ++ take done bytes))

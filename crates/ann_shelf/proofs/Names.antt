@@ -1,9 +1,9 @@
 -- Maps from names: a name set twice, and two names set in either order.
-use Rattle.std.proofs.Common.{◌≡◌, ◌≢◌, ℕ, List, Bool, cond, true, false, refl, sym, ap, subst, ◌∙◌, Some}
+use Rattle.std.proofs.Common.{◌≡◌, ◌≢◌, ℕ, List, Bool, cond, true, false, refl, sym, ap, subst, ◌∙◌, Some, None}
 use Rattle.std.specs.Bool.{Decides}
 use Rattle.std.specs.Ordering.{nat_cmp, eq_by_cmp}
 use Rattle.std.specs.Cmp.Lexicographic.{slice_cmp, nat_list_cmp_total}
-use Rattle.std.specs.FinMap.{get, insert, same_map, get-insert, nat_cmp-IsAntisymmetric, slice_cmp-IsAntisymmetric}
+use Rattle.std.specs.FinMap.{get, insert, remove, same_map, get-insert, get-remove, nat_cmp-IsAntisymmetric, slice_cmp-IsAntisymmetric}
 use Rattle.std.proofs.lemmas.Slice.Eq.{bytes_eq-Decides}
 use Rattle.std.proofs.lemmas.Map.Text.{is_eq-slice_cmp}
 use Rattle.ann_shelf.specs.Files.{Files}
@@ -56,3 +56,33 @@ insert_swap m a u b v ne = same_map nat_list_cmp_total (slice_cmp-IsAntisymmetri
 pub insert_held : (m : Files) (k v : List ℕ) → get m k ≡ Some v → insert m k v ≡ m
 insert_held m k v is = same_map nat_list_cmp_total (slice_cmp-IsAntisymmetric nat_cmp-IsAntisymmetric) _ _ (λ q.
     get-insert nat_list_cmp_total m k v q ∙ kept (is_same q k) (Some v) (get m q) (λ same. sym (ap (get m) ((same_name q k).0 same) ∙ is)))
+
+-- a name that is set and taken away
+pub remove_insert_same : (m : Files) (k v : List ℕ) → remove (insert m k v) k ≡ remove m k
+remove_insert_same m k v = same_map nat_list_cmp_total (slice_cmp-IsAntisymmetric nat_cmp-IsAntisymmetric) _ _ (λ q.
+    get-remove nat_list_cmp_total (insert m k v) k q
+    ∙ ap (cond (is_same q k) None) (get-insert nat_list_cmp_total m k v q)
+    ∙ twice (is_same q k) None (Some v) (get m q)
+    ∙ sym (get-remove nat_list_cmp_total m k q))
+
+-- a name that is set and another that is taken away
+pub remove_insert_other : (m : Files) (a v b : List ℕ) → a ≢ b → remove (insert m a v) b ≡ insert (remove m b) a v
+remove_insert_other m a v b ne = same_map nat_list_cmp_total (slice_cmp-IsAntisymmetric nat_cmp-IsAntisymmetric) _ _ (λ q.
+    get-remove nat_list_cmp_total (insert m a v) b q
+    ∙ ap (cond (is_same q b) None) (get-insert nat_list_cmp_total m a v q)
+    ∙ swapped (is_same q a) (is_same q b) (Some v) None (get m q) (λ qa qb. ne (sym ((same_name q a).0 qa) ∙ (same_name q b).0 qb))
+    ∙ sym (ap (cond (is_same q a) (Some v)) (get-remove nat_list_cmp_total m b q))
+    ∙ sym (get-insert nat_list_cmp_total (remove m b) a v q))
+
+-- a name that isn't there
+pub remove_absent : (m : Files) (k : List ℕ) → get m k ≡ None → remove m k ≡ m
+remove_absent m k none = same_map nat_list_cmp_total (slice_cmp-IsAntisymmetric nat_cmp-IsAntisymmetric) _ _ (λ q.
+    get-remove nat_list_cmp_total m k q ∙ kept (is_same q k) None (get m q) (λ same. sym (ap (get m) ((same_name q k).0 same) ∙ none)))
+
+-- a name that is taken away twice
+pub remove_twice : (m : Files) (k : List ℕ) → remove (remove m k) k ≡ remove m k
+remove_twice m k = same_map nat_list_cmp_total (slice_cmp-IsAntisymmetric nat_cmp-IsAntisymmetric) _ _ (λ q.
+    get-remove nat_list_cmp_total (remove m k) k q
+    ∙ ap (cond (is_same q k) None) (get-remove nat_list_cmp_total m k q)
+    ∙ twice (is_same q k) None None (get m q)
+    ∙ sym (get-remove nat_list_cmp_total m k q))

@@ -1,13 +1,13 @@
 -- Places of files in a list of them.
-use Rattle.std.proofs.Common.{◌≡◌, ◌≢◌, ℕ, zero, suc, ◌<◌, List, [], ◌∷◌, ◌++◌, length, take, get_or, refl, sym, ap, subst, ◌∙◌, arith, Some, None, IsSome, unwrap_or, Vec, string_bytes}
+use Rattle.std.proofs.Common.{◌≡◌, ◌≢◌, ℕ, zero, suc, ◌+◌, ◌<◌, add-one, List, [], ◌∷◌, ◌++◌, length, take, drop, get_or, refl, sym, ap, subst, ◌∙◌, arith, Some, None, IsSome, unwrap_or, Vec, string_bytes}
 use Rattle.std.specs.declared.alloc.Global.{Global}
 use Rattle.std.proofs.Math.ListN.{set}
 use Rattle.std.specs.Ordering.{nat_cmp}
 use Rattle.std.specs.Cmp.Lexicographic.{slice_cmp}
-use Rattle.std.specs.FinMap.{get, insert, get-empty}
+use Rattle.std.specs.FinMap.{get, insert, remove, get-empty}
 use Rattle.ann_shelf.specs.Files.{bytes_of, with_file}
 use Rattle.ann_shelf.specs.NamedFiles.{Entry, files_of, IsPlace, IsAbsent}
-use Rattle.ann_shelf.proofs.Names.{get_same, get_other, insert_same, insert_swap, insert_held}
+use Rattle.ann_shelf.proofs.Names.{get_same, get_other, insert_same, insert_swap, insert_held, remove_insert_same, remove_insert_other, remove_absent}
 
 pub absent_more : (name : List ℕ) (es : List Entry) (i : ℕ) (d : Entry) → i < length es → IsAbsent name (take i es) → string_bytes (get_or es i d).0 ≢ name → IsAbsent name (take (suc i) es)
 absent_more name [] i d lt absent differs = absurd (omega arith)
@@ -74,3 +74,19 @@ files_of-extend name es i old v piece place is longer =
       subst IsSome (sym held) refl,
       files_of-change name es i old v place is ∙ ap (insert (files_of es) name) (longer ∙ sym (ap (λ o. unwrap_or o [] ++ piece) held)),
     )
+
+removed : (name : List ℕ) (es : List Entry) (i : ℕ) → IsPlace name es i → remove (files_of (take i es ++ drop (suc i) es)) name ≡ remove (files_of es) name
+removed name [] i place = absurd place
+removed name (e ∷ es) zero place =
+    ap (λ k. remove (files_of es) k) (sym place) ∙ sym (remove_insert_same (files_of es) (string_bytes e.0) e.1.items) ∙ ap (remove (insert (files_of es) (string_bytes e.0) e.1.items)) place
+removed name (e ∷ es) (suc i) place =
+    remove_insert_other (files_of (take i es ++ drop (suc i) es)) (string_bytes e.0) e.1.items name place.0
+    ∙ ap (λ m. insert m (string_bytes e.0) e.1.items) (removed name es i place.1)
+    ∙ sym (remove_insert_other (files_of es) (string_bytes e.0) e.1.items name place.0)
+
+-- a file that is taken out of its place
+pub files_of-removed : (name : List ℕ) (es : List Entry) (i : ℕ) → IsPlace name es i → remove (files_of (take i es ++ drop (i + 1) es)) name ≡ remove (files_of es) name
+files_of-removed name es i place = rw add-one (removed name es i place)
+
+pub files_of-absent : (name : List ℕ) (es : List Entry) → IsAbsent name es → remove (files_of es) name ≡ files_of es
+files_of-absent name es absent = remove_absent (files_of es) name (get_absent name es absent)

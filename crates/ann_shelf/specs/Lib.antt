@@ -1,5 +1,6 @@
 pub mod Faults
 pub mod Files
+pub mod Shown
 pub mod Written
 pub mod Calls
 pub mod NamedFiles

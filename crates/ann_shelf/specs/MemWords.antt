@@ -1,15 +1,21 @@
 -- What clauses say of the shelves and of the output in memory.
-use Rattle.std.specs.Prelude.{ℕ, List, Bool}
+use Rattle.std.specs.Prelude.{ℕ, List, Bool, Some}
 use Rattle.ann_shelf.specs.declared.mem_shelf.MemShelf.{MemShelf}
 use Rattle.ann_shelf.specs.declared.mem_out.MemOut.{MemOut}
 use Rattle.ann_shelf.specs.declared.sound_shelf.SoundShelf.{SoundShelf}
 use Rattle.ann_shelf.specs.Files.{Files}
+use Rattle.ann_shelf.specs.Shown.{Shown}
+use Rattle.ann_shelf.specs.Written.{Got}
 use Rattle.ann_shelf.specs.NamedFiles.{files_of}
 use Rattle.ann_shelf.specs.Calls.{next_call, is_among}
 
--- the files of a shelf in memory
+-- the files that a shelf in memory holds
 abbrev pub shelf_files : MemShelf → Files
 shelf_files s = files_of s.files.items
+
+-- the files that are begun and aren't finished
+abbrev pub shelf_begun : MemShelf → Files
+shelf_begun s = files_of s.begun.items
 
 -- how many calls of the trait there were
 abbrev pub shelf_calls : MemShelf → ℕ
@@ -27,13 +33,35 @@ next_fails s = shelf_fails s (next_call (shelf_calls s))
 abbrev pub shelf_read_faults : MemShelf → ℕ
 shelf_read_faults s = s.read_faults
 
--- how many begins and appends failed, of all names together
+-- how many begins, appends and finishes failed, of all names together
 abbrev pub shelf_write_faults : MemShelf → ℕ
 shelf_write_faults s = s.write_faults
 
--- the files of a shelf that never fails
+-- what a shelf in memory shows
+abbrev pub shelf_shown : MemShelf → Shown
+shelf_shown s = record {
+  held = Some (shelf_files s);
+  begun = Some (shelf_begun s);
+  read_faults = λ _. shelf_read_faults s;
+  write_faults = λ _. shelf_write_faults s;
+}
+
+-- the files that a shelf that never fails holds
 abbrev pub sound_files : SoundShelf → Files
 sound_files s = files_of s.files.items
+
+-- its files that are begun and aren't finished
+abbrev pub sound_begun : SoundShelf → Files
+sound_begun s = files_of s.begun.items
+
+-- what a shelf that never fails shows
+abbrev pub sound_shown : SoundShelf → Shown
+sound_shown s = record {
+  held = Some (sound_files s);
+  begun = Some (sound_begun s);
+  read_faults = λ _. 0;
+  write_faults = λ _. 0;
+}
 
 -- the bytes that an output in memory got
 abbrev pub out_bytes : MemOut → List ℕ
@@ -58,3 +86,11 @@ out_faults o = o.faults
 -- how many writes wanted memory
 abbrev pub out_wants : MemOut → ℕ
 out_wants o = o.wants
+
+-- what an output in memory got
+abbrev pub out_got : MemOut → Got
+out_got o = record {
+  written = Some (out_bytes o);
+  faults = out_faults o;
+  wants = out_wants o;
+}

@@ -1,98 +1,89 @@
-ghost use Rattle.std.specs.Prelude.{None, ◌≤◌, length, IfOk};
+ghost use Rattle.std.specs.Prelude.{◌≡◌, ◌≤◌};
+ghost use Rattle.ann_shelf.specs.Faults.{Rose};
 
 use crate::faults::failed;
+use crate::open_files::OpenFiles;
 use crate::{Shelf, Slip};
-use std::alloc::{AllocError, Global};
-use std::fs::{File, Files, OpenOptions};
+use std::alloc::Global;
+use std::fs::Files;
 use std::io;
-use std::io::{Read, Seek, SeekFrom, Write};
+use std::io::ErrorKind;
 
 /// The files of a folder of the system.
 ///
-/// It tells nothing of what they hold: no clause can say what a real file gives or takes. Each call opens the file by
-/// its name and closes it again. A read of a missing file and an append to one fail; an append never creates a file.
-/// One count of failed reads, and one of failed begins and appends, stands for all names.
+/// It tells nothing of what they hold: no clause can say what a real file gives or takes. A name is a path from the
+/// folder on, or an absolute one where it begins with a slash.
+///
+/// A file that is read is opened by the first read of its name and stays open: one that is replaced meanwhile is read
+/// on as it was. A read of a missing file fails, and so does one of a folder, a pipe or a device.
+///
+/// A file that is begun is written to a new one in the same folder, `annbuild-part-` and a number, which `finish` syncs
+/// and puts in the place of the named one; it is removed where a call fails and where the shelf is dropped. A device or
+/// a pipe is written to straight. An append or finish of a file that isn't begun fails.
+///
+/// A call that a signal interrupts is made again. One count of failed reads, and one of failed begins, appends and
+/// finishes, stands for all names.
 #[derive(Drop)]
-pub struct DirShelf<'r, R> {
-    rt: &'r R,
-    alloc: Global,
-    folder: String,
+pub struct DirShelf<'r, R: Files> {
+    files: OpenFiles<'r, R>,
     read_faults: u64,
     write_faults: u64,
 }
 
 impl<'r, R: Files> DirShelf<'r, R> {
-    /// The folder with this path. It keeps the runtime value and the allocator, from which each call takes its path.
-    pub fn new(rt: &'r R, alloc: Global, folder: String) -> DirShelf<'r, R> {
+    /// The folder with this path. It keeps the runtime value and the allocator, and takes no memory.
+    pub fn new(rt: &'r R, alloc: Global, folder: &'r str) -> DirShelf<'r, R> {
         DirShelf {
-            rt,
-            alloc,
-            folder,
+            files: OpenFiles::new(rt, alloc, folder),
             read_faults: 0,
             write_faults: 0,
         }
     }
+}
 
-    // The path of a file.
-    fn path(&self, name: &str) -> Result<String, AllocError> {
-        let mut path = self.folder.clone()?;
-        path.push('/')?;
-        path.push_str(name)?;
-        Ok(path)
+// What an error of the system is to the caller. All but want of memory count as a fault.
+fn slip_of(error: &io::Error, count: &mut u64) -> Slip
+    ensures cause { result ≡ Slip.Failed → Rose count.old count.new }
+    ensures grew { count.old ≤ count.new }
+{
+    if error.kind() == ErrorKind::OutOfMemory {
+        return Slip::NoMemory;
     }
-}
-
-// One read from a place on.
-fn read_some<R: Files>(rt: &R, path: &str, at: u64, into: &mut [u8]) -> io::Result<usize>
-    ensures { IfOk result (λ k. k ≤ length into.new) }
-{
-    let mut file = File::open(rt, path)?;
-    file.seek(SeekFrom::Start(at))?;
-    file.read(into)
-}
-
-// One write at the end of a file that is there.
-fn append_some<R: Files>(rt: &R, path: &str, bytes: &[u8]) -> io::Result<usize>
-    ensures { IfOk result (λ k. k ≤ length bytes.now) }
-{
-    let mut file = OpenOptions::new().append(true).open(rt, path)?;
-    file.write(bytes)
+    failed(count)
 }
 
 impl<'r, R: Files> Shelf for DirShelf<'r, R> {
-    ghost held = { λ _. None };
+    ghost use Rattle.std.specs.Prelude.{None};
 
-    ghost read_faults = { λ s _. s.read_faults };
+    ghost shown = { λ s. record { held = None; begun = None; read_faults = λ _. s.read_faults; write_faults = λ _. s.write_faults } };
 
-    ghost write_faults = { λ s _. s.write_faults };
+    ghost tells_begun = { λ _. tt };
 
     fn read_at(&mut self, name: &str, at: u64, into: &mut [u8]) -> Result<usize, Slip> {
-        let Ok(path) = self.path(name) else {
-            return Err(Slip::NoMemory);
-        };
-        match read_some(self.rt, path.as_str(), at, into) {
+        match self.files.read_at(name, at, into) {
             Ok(k) => Ok(k),
-            Err(_) => Err(failed(&mut self.read_faults)),
+            Err(e) => Err(slip_of(&e, &mut self.read_faults)),
         }
     }
 
     fn begin(&mut self, name: &str) -> Result<(), Slip> {
-        let Ok(path) = self.path(name) else {
-            return Err(Slip::NoMemory);
-        };
-        match File::create(self.rt, path.as_str()) {
-            Ok(_) => Ok(()),
-            Err(_) => Err(failed(&mut self.write_faults)),
+        match self.files.begin(name) {
+            Ok(()) => Ok(()),
+            Err(e) => Err(slip_of(&e, &mut self.write_faults)),
         }
     }
 
     fn append(&mut self, name: &str, bytes: &[u8]) -> Result<usize, Slip> {
-        let Ok(path) = self.path(name) else {
-            return Err(Slip::NoMemory);
-        };
-        match append_some(self.rt, path.as_str(), bytes) {
-            Ok(k) if 0 < k || bytes.is_empty() => Ok(k),
-            _ => Err(failed(&mut self.write_faults)),
+        match self.files.append(name, bytes) {
+            Ok(k) => Ok(k),
+            Err(e) => Err(slip_of(&e, &mut self.write_faults)),
+        }
+    }
+
+    fn finish(&mut self, name: &str) -> Result<(), Slip> {
+        match self.files.finish(name) {
+            Ok(()) => Ok(()),
+            Err(e) => Err(slip_of(&e, &mut self.write_faults)),
         }
     }
 }

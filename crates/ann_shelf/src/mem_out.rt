@@ -1,6 +1,7 @@
-ghost use Rattle.std.specs.Prelude.{◌≡◌, true, false, ◌||◌, ◌==◌, ◌++◌, [], ◌≤◌, ℕ, Some, length, OnOk, OnErr, IfOk, IsErrOf};
+ghost use Rattle.std.specs.Prelude.{◌≡◌, true, false, ◌||◌, ◌==◌, ◌++◌, [], ℕ, length, OnOk, OnErr, IfOk, IsErrOf};
 ghost use Rattle.ann_shelf.specs.Calls.{next_call};
-ghost use Rattle.ann_shelf.specs.Faults.{Rose, next_count};
+ghost use Rattle.ann_shelf.specs.Faults.{next_count};
+ghost use Rattle.ann_shelf.specs.Written.{OnlyWritten};
 
 use crate::calls::is_to_fail;
 use crate::faults::{failed, wanted};
@@ -61,14 +62,9 @@ impl MemOut {
 }
 
 impl Out for MemOut {
-    ghost use Rattle.std.specs.Prelude.{Some};
-    ghost use Rattle.ann_shelf.specs.MemWords.{out_bytes, out_calls, out_fails, next_write_fails, out_faults, out_wants};
+    ghost use Rattle.ann_shelf.specs.MemWords.{out_bytes, out_calls, out_fails, next_write_fails, out_faults, out_wants, out_got};
 
-    ghost written = { λ o. Some (out_bytes o) };
-
-    ghost faults = { λ o. out_faults o };
-
-    ghost wants = { λ o. out_wants o };
+    ghost got = { out_got };
 
     /// Takes the whole piece. Fails where its number is set, and nowhere else. After a refusal nothing was added.
     fn write(&mut self, bytes: &[u8]) -> Result<usize, Slip>
@@ -80,13 +76,10 @@ impl Out for MemOut {
         ensures refused { IsErrOf result Slip.Failed → next_write_fails self.old ≡ true }
         ensures calls { out_calls self.new ≡ next_call (out_calls self.old) }
         ensures failing { out_fails self.new ≡ out_fails self.old }
-        ensures faults_stay { out_faults self.old ≤ out_faults self.new }
-        ensures wants_stay { out_wants self.old ≤ out_wants self.new }
         ensures uncounted { OnOk result ((out_faults self.new ≡ out_faults self.old) × (out_wants self.new ≡ out_wants self.old)) }
         ensures fault_counted { IsErrOf result Slip.Failed → (out_faults self.new ≡ next_count (out_faults self.old)) × (out_wants self.new ≡ out_wants self.old) }
         ensures want_counted { IsErrOf result Slip.NoMemory → (out_wants self.new ≡ next_count (out_wants self.old)) × (out_faults self.new ≡ out_faults self.old) }
-        ensures cause { IsErrOf result Slip.Failed → Rose (out_faults self.old) (out_faults self.new) }
-        ensures want { IsErrOf result Slip.NoMemory → Rose (out_wants self.old) (out_wants self.new) }
+        ensures only_written { OnlyWritten (out_got self.old) (out_got self.new) (IsErrOf result Slip.Failed) (IsErrOf result Slip.NoMemory) }
     {
         if is_to_fail(&mut self.calls, &self.failing) {
             return Err(failed(&mut self.faults));
@@ -95,23 +88,5 @@ impl Out for MemOut {
             Ok(()) => Ok(bytes.len()),
             Err(_) => Err(wanted(&mut self.wants)),
         }
-    }
-}
-
-#[cfg(test)]
-mod tests {
-    use super::*;
-    use crate::write_all;
-    use std::test::Fail;
-
-    #[test]
-    fn writes_with_set_numbers_fail_and_add_nothing(rt: HostRuntime) -> Result<(), Fail> {
-        let mut out = MemOut::new(rt.alloc());
-        out.fail_call(2)?;
-        assert_eq!(rt; out.write(b"ab")?, 2);
-        assert_eq!(rt; write_all(&mut out, b"cd"), Err(Slip::Failed));
-        write_all(&mut out, b"ef")?;
-        assert_eq!(rt; out.bytes(), b"abef".as_slice());
-        Ok(())
     }
 }

@@ -1,7 +1,7 @@
 // A list of files by name, as the shelves in memory keep it. Of two files of one name the first counts.
 ghost use Rattle.std.specs.Prelude.{◌≡◌, true, false, ◌++◌, ◌<◌, ◌≤◌, length, OnOk, OnErr, IfOk, IfSome, IsSome, None, MatchOption, option_map};
 ghost use Rattle.std.specs.FinMap.{get};
-ghost use Rattle.ann_shelf.specs.Files.{bytes_of, with_file, Reads};
+ghost use Rattle.ann_shelf.specs.Files.{bytes_of, with_file, without_file, Reads};
 ghost use Rattle.ann_shelf.specs.NamedFiles.{files_of, IsPlace, IsAbsent};
 
 use std::alloc::{AllocError, Global};
@@ -55,12 +55,25 @@ pub(crate) fn extend_file(
     ensures err { OnErr result (files_of files.new.items ≡ files_of files.old.items) }
 {
     match place_of(files, name) {
-        Some(i) => match files[i].1.extend_from_slice(piece) {
-            Ok(()) => Ok(true),
-            Err(error) => Err(error),
-        },
+        Some(i) => {
+            files[i].1.extend_from_slice(piece)?;
+            Ok(true)
+        }
         None => Ok(false),
     }
+}
+
+// Takes a file out of the list, and answers its bytes where there is one.
+pub(crate) fn take_file(files: &mut Vec<(String, Vec<u8>)>, name: &str) -> Option<Vec<u8>>
+    ensures value { option_map (λ bytes. bytes.items) result ≡ get (files_of files.old.items) name.now }
+    ensures rest { files_of files.new.items ≡ without_file (files_of files.old.items) name.now }
+{
+    let i = place_of(files, name)?;
+    let (_, bytes) = files.remove(i);
+    while let Some(i) = place_of(files, name) {
+        files.remove(i);
+    }
+    Some(bytes)
 }
 
 // A file's bytes, where there is one.

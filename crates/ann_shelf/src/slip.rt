@@ -1,4 +1,5 @@
 //! What a call of the outside may answer in place of `Ok`, and what limits speak of.
+ghost use Rattle.std.specs.Prelude.{◌≡◌};
 
 use std::alloc::{AllocError, AllocFailed};
 
@@ -25,6 +26,26 @@ pub enum Slip {
     Failed,
     /// There was no memory.
     NoMemory,
+}
+
+impl From<AllocError> for Slip {
+    ghost use Rattle.ann_shelf.specs.declared.slip.Slip.TheVariants.{NoMemory};
+
+    ghost from_gives = { λ _ slip. slip ≡ NoMemory };
+
+    fn from(_error: AllocError) -> Slip {
+        Slip::NoMemory
+    }
+}
+
+impl From<NoMemory> for Slip {
+    ghost use Rattle.ann_shelf.specs.declared.slip.Slip.TheVariants.{NoMemory};
+
+    ghost from_gives = { λ _ slip. slip ≡ NoMemory };
+
+    fn from(_error: NoMemory) -> Slip {
+        Slip::NoMemory
+    }
 }
 
 /// What a limit speaks of. It stands here since the readers of points and of indexes and the program all answer it.

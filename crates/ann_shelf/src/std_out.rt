@@ -1,4 +1,4 @@
-ghost use Rattle.std.specs.Prelude.{None, ◌≤◌, length, IfOk};
+ghost use Rattle.std.specs.Prelude.{◌≤◌, length, IfOk};
 
 use crate::faults::{failed, wanted};
 use crate::{Out, Slip};
@@ -55,11 +55,9 @@ fn write_some<R: Print + Eprint>(rt: &R, is_err: bool, bytes: &[u8]) -> io::Resu
 }
 
 impl<'r, R: Print + Eprint> Out for StdOut<'r, R> {
-    ghost written = { λ _. None };
+    ghost use Rattle.std.specs.Prelude.{None};
 
-    ghost faults = { λ s. s.faults };
-
-    ghost wants = { λ s. s.wants };
+    ghost got = { λ s. record { written = None; faults = s.faults; wants = s.wants } };
 
     fn write(&mut self, bytes: &[u8]) -> Result<usize, Slip> {
         match write_some(self.rt, self.is_err, bytes) {
