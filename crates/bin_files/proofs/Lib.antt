@@ -3,4 +3,5 @@ pub mod RowLaws
 pub mod Spelled
 pub mod Texts
 pub mod Verdicts
-pub mod Writes
+pub mod Turned
+pub mod SamePoints

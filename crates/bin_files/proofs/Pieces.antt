@@ -1,6 +1,6 @@
 -- A buffer that is filled piece by piece.
-use Rattle.std.proofs.Common.{◌≡◌, ℕ, ◌+◌, ◌≤◌, List, ◌++◌, length, take, drop, sym, ap, subst, ◌∙◌, Option, Some, None, IfSome}
-use Rattle.std.proofs.lemmas.List.{drop-drop, length-take-le, take-append-le}
+use Rattle.std.proofs.Common.{◌≡◌, ℕ, ◌+◌, ◌<◌, ◌≤◌, arith, inl, inr, List, ◌++◌, length, take, drop, sym, ap, subst, ◌∙◌, Option, Some, None, IfSome}
+use Rattle.std.proofs.lemmas.List.{drop-drop, length-drop, length-take-le, take-append-le}
 use Rattle.std.proofs.Math.Seq.{take-add, take-append-add}
 use Rattle.ann_shelf.specs.Files.{Reads}
 
@@ -24,3 +24,17 @@ both_told {A} {P} {Q} {R} o p e = subst (λ v. IfSome o P → IfSome v Q → ((x
 pub told_then : {A : Type 0} {P Q : A → Type 0} (o : Option A) → IfSome o P → ((x : A) → P x → Q x) → IfSome o Q
 told_then None p f = tt
 told_then (Some x) p f = f x p
+
+pub told_always : {A : Type 0} {P : A → Type 0} (o : Option A) → ((x : A) → P x) → IfSome o P
+told_always None f = tt
+told_always (Some x) f = f x
+
+-- a read that gave nothing
+pub same_read : (a b : List ℕ) (n k : ℕ) → k ≡ 0 → take (n + k) a ≡ take (n + k) b → take n a ≡ take n b
+same_read a b n k none same = let e : n + k ≡ n = omega arith in subst (λ m. take m a ≡ take m b) e same
+
+pub stopped : (file part : List ℕ) (at done k : ℕ) → Reads file (at + done) k part → k ≡ 0 → 0 < length part → done ≤ length (drop at file) → done ≡ length (drop at file)
+stopped file part at done k reads none some within = elim (reads.ends none) [
+  | inl empty ↦ absurd (omega arith)
+  | inr past ↦ omega (arith, length-drop at file)
+]

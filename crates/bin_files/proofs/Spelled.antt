@@ -7,14 +7,14 @@ use Rattle.std.proofs.lemmas.Nat.{le_bytes_4}
 use Rattle.std.proofs.lemmas.Bool.Decides.{nat_tests}
 use Rattle.std.proofs.Math.Seq.{take-add, drop-cons}
 use Rattle.std.proofs.Math.Nat.{suc-mul, mul-le-mul_right}
-use Rattle.bin_files.specs.Points.{u32_at, header_verdict, text}
+use Rattle.ann_defs.specs.declared.kinds.Element.{Element}
+use Rattle.bin_files.specs.Points.{u32_at, header_verdict, file_bytes, text}
 use Rattle.bin_files.specs.Read.{HasHeader}
-use Rattle.ann_defs.specs.Distance.{dim_of}
-use Rattle.bin_files.specs.Rows.{rows, cells, ArePoints}
+use Rattle.ann_defs.specs.Distance.{PointSet, dim_of}
+use Rattle.bin_files.specs.Rows.{rows, cells, AreLimits, ArePoints}
+use Rattle.bin_files.proofs.Turned.{AreBytes}
+use Rattle.bin_files.proofs.SamePoints.{point_set}
 use Rattle.bin_files.proofs.RowLaws.{length-rows, dim_of-rows, cells-rows}
-
-abbrev pub AreBytes : List ℕ → Type 0
-AreBytes bytes = (i : ℕ) → get_or bytes i 0 < 256
 
 four_bytes : (a b c d : ℕ) → a < 256 → b < 256 → c < 256 → d < 256 → AreBytes (a ∷ b ∷ c ∷ d ∷ [])
 four_bytes a b c d p q r s zero = p
@@ -24,7 +24,7 @@ four_bytes a b c d p q r s (suc (suc (suc zero))) = s
 four_bytes a b c d p q r s (suc (suc (suc (suc i)))) = lit< tt
 
 -- four bytes are the bytes of their number
-four : (bytes : List ℕ) (at : ℕ) → at + 4 ≤ length bytes → AreBytes bytes → take 4 (drop at bytes) ≡ to_le_bytes w32 (u32_at bytes at)
+pub four : (bytes : List ℕ) (at : ℕ) → at + 4 ≤ length bytes → AreBytes bytes → take 4 (drop at bytes) ≡ to_le_bytes w32 (u32_at bytes at)
 four bytes at fits are =
     ap (take 4) (drop-cons bytes at 0 (omega arith) ∙ ap (λ xs. get_or bytes at 0 ∷ xs) (drop-cons bytes (suc at) 0 (omega arith)
     ∙ ap (λ xs. get_or bytes (suc at) 0 ∷ xs) (drop-cons bytes (suc (suc at)) 0 (omega arith) ∙ ap (λ xs. get_or bytes (suc (suc at)) 0 ∷ xs) (drop-cons bytes (suc (suc (suc at))) 0 (omega arith)))))
@@ -42,23 +42,17 @@ eight bytes long are =
     sym (take_all 8 bytes (omega arith)) ∙ take-add 4 4 bytes
     ∙ ap (λ xs. xs ++ take 4 (drop 4 bytes)) (four bytes 0 (omega arith) are) ∙ ap (λ xs. to_le_bytes w32 (u32_at bytes 0) ++ xs) (four bytes 4 (omega arith) are)
 
-pub is_text : (file : List ℕ) (n d : ℕ) (body : List ℕ) → 1 ≤ n → HasHeader file n d → body ≡ drop 8 file → length body ≡ n * d → file ≡ text (rows n d body)
-is_text file n d body some has is long =
+pub is_text : (element : Element) (file : List ℕ) (n d : ℕ) (body : List ℕ) → 1 ≤ n → HasHeader file n d → file_bytes element body ≡ drop 8 file → length body ≡ n * d
+    → file ≡ text (record { element = element; vectors = rows n d body })
+is_text element file n d body some has is long =
     let fits : d ≤ length body = omega (arith, mul-le-mul_right {m = 1} {n = n} d some) in
     sym (take-append-drop 8 file) ∙ ap (λ xs. xs ++ drop 8 file) has.spelled ∙ append_assoc (to_le_bytes w32 n) (to_le_bytes w32 d) (drop 8 file)
-    ∙ sym (ap (λ m. to_le_bytes w32 m ++ to_le_bytes w32 (dim_of (rows n d body)) ++ cells (rows n d body)) (length-rows n d body)
-    ∙ ap (λ m. to_le_bytes w32 n ++ to_le_bytes w32 m ++ cells (rows n d body)) (dim_of-rows n d body some fits)
-    ∙ ap (λ xs. to_le_bytes w32 n ++ to_le_bytes w32 d ++ xs) (cells-rows n d body long ∙ is) ∙ append_assoc (to_le_bytes w32 n) (to_le_bytes w32 d) (drop 8 file))
+    ∙ sym (ap (λ m. to_le_bytes w32 m ++ to_le_bytes w32 (dim_of (rows n d body)) ++ file_bytes element (cells (rows n d body))) (length-rows n d body)
+    ∙ ap (λ m. to_le_bytes w32 n ++ to_le_bytes w32 m ++ file_bytes element (cells (rows n d body))) (dim_of-rows n d body some fits)
+    ∙ ap (λ xs. to_le_bytes w32 n ++ to_le_bytes w32 d ++ xs) (ap (file_bytes element) (cells-rows n d body long) ∙ is) ∙ append_assoc (to_le_bytes w32 n) (to_le_bytes w32 d) (drop 8 file))
 
--- the limits that a sound header keeps
-pub record Limits (n d : ℕ) : Type 0 where
-  pub some : 1 ≤ n
-  pub count : n ≤ 4194304
-  pub wide : 1 ≤ d
-  pub dim : d ≤ 2048
-  pub fit : n * d ≤ 1073741824
-
-pub limits_of : (n d : ℕ) → header_verdict n d ≡ None → Limits n d
+-- a sound header keeps the limits
+pub limits_of : (n d : ℕ) → header_verdict n d ≡ None → AreLimits n d
 limits_of n d sound = record {
   some = grind (arith, nat_tests);
   count = grind (arith, nat_tests);
@@ -90,18 +84,19 @@ bytes-rows : (m d : ℕ) (body : List ℕ) → AreBytes body → AllByRecursion 
 bytes-rows zero d body are = tt
 bytes-rows (suc m) d body are = (take_bytes d body are, bytes-rows m d (drop d body) (drop_bytes d body are))
 
-pub are_points : (n d : ℕ) (body : List ℕ) → header_verdict n d ≡ None → length body ≡ n * d → AreBytes body → ArePoints (rows n d body)
-are_points n d body sound long are =
-    let limits = limits_of n d sound in
+pub are_points : (n d : ℕ) (body : List ℕ) → AreLimits n d → length body ≡ n * d → AreBytes body → ArePoints (rows n d body)
+are_points n d body limits long are =
     let fits : d ≤ length body = omega (arith, mul-le-mul_right {m = 1} {n = n} d limits.some) in
     let count = length-rows n d body in
     let dim = dim_of-rows n d body limits.some fits in
     record {
-      some = subst (λ m. 1 ≤ m) (sym count) limits.some;
-      count = subst (λ m. m ≤ 4194304) (sym count) limits.count;
-      wide = subst (λ m. 1 ≤ m) (sym dim) limits.wide;
-      dim = subst (λ m. m ≤ 2048) (sym dim) limits.dim;
-      fit = subst (λ m. m * dim_of (rows n d body) ≤ 1073741824) (sym count) (subst (λ m. n * m ≤ 1073741824) (sym dim) limits.fit);
+      limits = subst (λ m. AreLimits m (dim_of (rows n d body))) (sym count) (subst (λ m. AreLimits n m) (sym dim) limits);
       each = subst (λ m. AllByRecursion (λ x. length x ≡ m) (rows n d body)) (sym dim) (each-rows n d body long);
       bytes = bytes-rows n d body are;
     }
+
+-- points that were read are those whose text the file is
+pub text_read : (element : Element) (file : List ℕ) (n d : ℕ) (raw numbers : List ℕ) (p : PointSet) → AreLimits n d → HasHeader file n d → raw ≡ drop 8 file → length numbers ≡ n * d
+    → raw ≡ file_bytes element numbers → p.element ≡ element → p.vectors ≡ rows n d numbers → file ≡ text p
+text_read element file n d raw numbers p limits has is long back same vectors =
+    is_text element file n d numbers limits.some has (sym back ∙ is) long ∙ ap text (sym (point_set p element (rows n d numbers) same vectors))

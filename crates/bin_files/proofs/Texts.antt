@@ -9,12 +9,15 @@ use Rattle.std.proofs.lemmas.Bool.{ltb-false}
 use Rattle.std.proofs.Math.Seq.{take-append_seam, drop-append_seam}
 use Rattle.std.proofs.Math.Nat.{suc-mul}
 use Rattle.bin_files.specs.declared.fault.PointsFault.{PointsFault}
-use Rattle.bin_files.specs.Points.{u32_at, verdict, header_verdict, body_verdict, or_else, text, points_of}
+use Rattle.bin_files.specs.Points.{u32_at, verdict, header_verdict, body_verdict, or_else, file_bytes, text, points_of}
 use Rattle.bin_files.specs.Read.{HasHeader}
-use Rattle.ann_defs.specs.Distance.{dim_of}
-use Rattle.bin_files.specs.Rows.{rows, cells, ArePoints}
+use Rattle.ann_defs.specs.declared.kinds.Element.{Element}
+use Rattle.ann_defs.specs.declared.limits.TheConstants.{MAX_POINTS, MAX_DIM}
+use Rattle.ann_defs.specs.Distance.{PointSet, dim_of}
+use Rattle.bin_files.specs.Rows.{rows, cells, AreLimits, ArePoints}
 use Rattle.bin_files.proofs.Verdicts.{verdict_long, same_u32, body_sound}
-use Rattle.bin_files.proofs.Spelled.{AreBytes, drop_bytes, eight, is_text, are_points, limits_of}
+use Rattle.bin_files.proofs.Spelled.{drop_bytes, eight, is_text, are_points, limits_of}
+use Rattle.bin_files.proofs.Turned.{AreBytes, length-file_bytes, file_bytes_twice, file_bytes_below}
 
 rows-cells : (d : ℕ) (X : List (List ℕ)) → AllByRecursion (λ x. length x ≡ d) X → rows (length X) d (cells X) ≡ X
 rows-cells d [] each = refl
@@ -36,30 +39,48 @@ u32-count n d body fits = from_le_bytes-to_le_bytes_4 n fits
 u32-dim : (n d : ℕ) (body : List ℕ) → d < 2 ^ 32 → u32_at (to_le_bytes w32 n ++ to_le_bytes w32 d ++ body) 4 ≡ d
 u32-dim n d body fits = from_le_bytes-to_le_bytes_4 d fits
 
-pub header_sound : (n d : ℕ) → 1 ≤ n → n ≤ 4194304 → 1 ≤ d → d ≤ 2048 → n * d ≤ 1073741824 → header_verdict n d ≡ None
-header_sound n d some count wide dim fit = grind (arith, nat_tests)
+pub header_sound : (n d : ℕ) → AreLimits n d → header_verdict n d ≡ None
+header_sound n d limits =
+    let some = limits.some in
+    let count = limits.count in
+    let wide = limits.wide in
+    let dim = limits.dim in
+    let fit = limits.fit in
+    grind (arith, nat_tests)
 
-pub text_verdict : (X : List (List ℕ)) → ArePoints X → verdict (text X) ≡ None
+pub text_verdict : (X : PointSet) → ArePoints X.vectors → verdict (text X) ≡ None
 text_verdict X are =
-    let n = length X in
-    let d = dim_of X in
-    let count : u32_at (text X) 0 ≡ n = u32-count n d (cells X) (lt_32 n 4194304 are.count (lit< tt)) in
-    let dim : u32_at (text X) 4 ≡ d = u32-dim n d (cells X) (lt_32 d 2048 are.dim (lit< tt)) in
+    let n = length X.vectors in
+    let d = dim_of X.vectors in
+    let body = file_bytes X.element (cells X.vectors) in
+    let count : u32_at (text X) 0 ≡ n = u32-count n d body (lt_32 n MAX_POINTS are.limits.count (lit< tt)) in
+    let dim : u32_at (text X) 4 ≡ d = u32-dim n d body (lt_32 d MAX_DIM are.limits.dim (lit< tt)) in
     verdict_long (text X) (omega arith)
-    ∙ ap (λ h. or_else h (body_verdict (length (cells X)) (u32_at (text X) 0 * u32_at (text X) 4)))
-    (ap (λ m. header_verdict m (u32_at (text X) 4)) count ∙ ap (header_verdict n) dim ∙ header_sound n d are.some are.count are.wide are.dim are.fit)
-    ∙ body_sound (length (cells X)) (u32_at (text X) 0 * u32_at (text X) 4) (length-cells d X are.each ∙ sym (ap (λ m. m * u32_at (text X) 4) count ∙ ap (λ m. n * m) dim))
+    ∙ ap (λ h. or_else h (body_verdict (length body) (u32_at (text X) 0 * u32_at (text X) 4)))
+    (ap (λ m. header_verdict m (u32_at (text X) 4)) count ∙ ap (header_verdict n) dim ∙ header_sound n d are.limits)
+    ∙ body_sound (length body) (u32_at (text X) 0 * u32_at (text X) 4)
+    (length-file_bytes X.element (cells X.vectors) ∙ length-cells d X.vectors are.each ∙ sym (ap (λ m. m * u32_at (text X) 4) count ∙ ap (λ m. n * m) dim))
 
-pub text_points : (X : List (List ℕ)) → ArePoints X → points_of (text X) ≡ X
+cells_below : (X : List (List ℕ)) → AllByRecursion (AllByRecursion (λ b. b < 256)) X → AreBytes (cells X)
+cells_below [] all i = lit< tt
+cells_below ([] ∷ X) all i = cells_below X all.1 i
+cells_below ((b ∷ x) ∷ X) all zero = all.0.0
+cells_below ((b ∷ x) ∷ X) all (suc i) = cells_below (x ∷ X) (all.0.1, all.1) i
+
+pub text_points : (X : PointSet) → ArePoints X.vectors → points_of X.element (text X) ≡ X
 text_points X are =
-    let n = length X in
-    let d = dim_of X in
-    let count : u32_at (text X) 0 ≡ n = u32-count n d (cells X) (lt_32 n 4194304 are.count (lit< tt)) in
-    let dim : u32_at (text X) 4 ≡ d = u32-dim n d (cells X) (lt_32 d 2048 are.dim (lit< tt)) in
-    ap (λ m. rows m (u32_at (text X) 4) (cells X)) count ∙ ap (λ m. rows n m (cells X)) dim ∙ rows-cells d X are.each
+    let n = length X.vectors in
+    let d = dim_of X.vectors in
+    let body = file_bytes X.element (cells X.vectors) in
+    let count : u32_at (text X) 0 ≡ n = u32-count n d body (lt_32 n MAX_POINTS are.limits.count (lit< tt)) in
+    let dim : u32_at (text X) 4 ≡ d = u32-dim n d body (lt_32 d MAX_DIM are.limits.dim (lit< tt)) in
+    let vectors : rows (u32_at (text X) 0) (u32_at (text X) 4) (file_bytes X.element body) ≡ X.vectors =
+    ap (λ m. rows m (u32_at (text X) 4) (file_bytes X.element body)) count ∙ ap (λ m. rows n m (file_bytes X.element body)) dim
+    ∙ ap (rows n d) (file_bytes_twice X.element (cells X.vectors) (cells_below X.vectors are.bytes)) ∙ rows-cells d X.vectors are.each in
+    ap (λ v. record { element = X.element; vectors = v }) vectors
 
-pub text_only : (X Y : List (List ℕ)) → ArePoints X → ArePoints Y → text X ≡ text Y → X ≡ Y
-text_only X Y x y same = sym (text_points X x) ∙ ap points_of same ∙ text_points Y y
+pub text_only : (X Y : PointSet) → ArePoints X.vectors → ArePoints Y.vectors → X.element ≡ Y.element → text X ≡ text Y → X ≡ Y
+text_only X Y x y element same = sym (text_points X x) ∙ ap (points_of X.element) same ∙ ap (λ e. points_of e (text Y)) element ∙ text_points Y y
 
 -- a test that is not met
 not_some : (b : Bool) (fault : PointsFault) (rest : Option PointsFault) → cond b (Some fault) rest ≡ None → (b ≡ false) × (rest ≡ None)
@@ -94,14 +115,19 @@ body_long has wants e =
     let trailing = not_some (nat_lt wants has) _ _ short.1 in
     omega (arith, ltb-false has wants short.0, ltb-false wants has trailing.0)
 
-pub sound_text : (file : List ℕ) → AllByRecursion (λ b. b < 256) file → verdict file ≡ None → ArePoints (points_of file) × (file ≡ text (points_of file))
-sound_text file all none =
+pub sound_text : (element : Element) (file : List ℕ) → AllByRecursion (λ b. b < 256) file → verdict file ≡ None
+    → ArePoints (points_of element file).vectors × (file ≡ text (points_of element file))
+sound_text element file all none =
     let are = are_of file all in
     let n = u32_at file 0 in
     let d = u32_at file 4 in
+    let body = file_bytes element (drop 8 file) in
     let first = not_some (nat_lt (length file) 8) _ _ none in
     let long : 8 ≤ length file = ltb-false (length file) 8 first.0 in
     let parts = neither (header_verdict n d) (body_verdict (length (drop 8 file)) (n * d)) first.1 in
-    let full : length (drop 8 file) ≡ n * d = body_long (length (drop 8 file)) (n * d) parts.1 in
+    let full : length body ≡ n * d = length-file_bytes element (drop 8 file) ∙ body_long (length (drop 8 file)) (n * d) parts.1 in
     let has : HasHeader file n d = record { long = long; count = refl; dim = refl; sound = parts.0; spelled = header_of file are long } in
-    (are_points n d (drop 8 file) parts.0 full (drop_bytes 8 file are), is_text file n d (drop 8 file) (limits_of n d parts.0).some has refl full)
+    let limits = limits_of n d parts.0 in (
+      are_points n d body limits full (file_bytes_below element (drop 8 file) (drop_bytes 8 file are)),
+      is_text element file n d body limits.some has (file_bytes_twice element (drop 8 file) (drop_bytes 8 file are)) full,
+    )

@@ -4,7 +4,10 @@ use Rattle.std.specs.Int.{w32, to_le_bytes}
 use Rattle.std.specs.declared.alloc.Global.{Global}
 use Rattle.ann_defs.specs.Distance.{PointSet}
 use Rattle.bin_files.specs.declared.fault.PointsFault.{PointsFault}
-use Rattle.bin_files.specs.declared.fault.PointsFault.TheVariants.{Read, Malformed, TooLarge, NoMemory}
+use Rattle.bin_files.specs.declared.fault.PointsFault.TheVariants.{Read, Malformed, TooLarge, NoMemory as NoPointsMemory}
+use Rattle.ann_shelf.specs.declared.slip.Slip.{Slip}
+use Rattle.ann_shelf.specs.declared.slip.Slip.TheVariants.{Failed, NoMemory}
+use Rattle.ann_defs.specs.declared.kinds.Element.{Element}
 use Rattle.bin_files.specs.Points.{u32_at, verdict, header_verdict, body_verdict, points_of, text}
 use Rattle.bin_files.specs.Rows.{ArePoints}
 
@@ -19,16 +22,21 @@ abbrev pub IsFaultOf : List ℕ → PointsFault → Type 0
 IsFaultOf bytes Read = Unit {0}
 IsFaultOf bytes (Malformed place rule) = verdict bytes ≡ Some (Malformed place rule)
 IsFaultOf bytes (TooLarge name value limit) = verdict bytes ≡ Some (TooLarge name value limit)
-IsFaultOf bytes NoMemory = Unit {0}
+IsFaultOf bytes NoPointsMemory = Unit {0}
 
 -- the answer is the verdict of these bytes; a failed read and want of memory may stand in its place
-abbrev pub Judges : List ℕ → Result PointSet PointsFault → Type 0
-Judges bytes (Ok points) = (verdict bytes ≡ None) × (points.vectors ≡ points_of bytes)
-Judges bytes (Err fault) = IsFaultOf bytes fault
+abbrev pub Judges : Element → List ℕ → Result PointSet PointsFault → Type 0
+Judges element bytes (Ok points) = (verdict bytes ≡ None) × (points ≡ points_of element bytes)
+Judges element bytes (Err fault) = IsFaultOf bytes fault
 
--- these are the only points within the limits whose text the bytes are
-abbrev pub AreOnlyPoints : List ℕ → List (List ℕ) → Type 0
-AreOnlyPoints bytes points = (X : List (List ℕ)) → ArePoints X → bytes ≡ text X → X ≡ points
+-- these are the only points of their element within the limits whose text the bytes are
+abbrev pub AreOnlyPoints : List ℕ → PointSet → Type 0
+AreOnlyPoints bytes points = (X : PointSet) → ArePoints X.vectors → X.element ≡ points.element → bytes ≡ text X → X ≡ points
+
+-- the fault that a refusal of the shelf is
+abbrev pub fault_of : Slip → PointsFault
+fault_of Failed = Read
+fault_of NoMemory = NoPointsMemory
 
 -- a file that has a header with these numbers, in which no rule is broken
 pub record HasHeader (bytes : List ℕ) (n d : ℕ) : Type 0 where
@@ -47,7 +55,12 @@ abbrev pub IsBodyFault : List ℕ → ℕ → PointsFault → Type 0
 IsBodyFault bytes wants Read = Unit {0}
 IsBodyFault bytes wants (Malformed place rule) = body_verdict (length (drop 8 bytes)) wants ≡ Some (Malformed place rule)
 IsBodyFault bytes wants (TooLarge name value limit) = ⊥
-IsBodyFault bytes wants NoMemory = Unit {0}
+IsBodyFault bytes wants NoPointsMemory = Unit {0}
+
+-- the answer says whether the file ends with its last point, where so many bytes are wanted after the header
+abbrev pub JudgesLength : List ℕ → ℕ → Result (Unit {0}) PointsFault → Type 0
+JudgesLength bytes wants (Ok _) = length (drop 8 bytes) ≡ wants
+JudgesLength bytes wants (Err fault) = IsBodyFault bytes wants fault
 
 abbrev pub JudgesBody : List ℕ → ℕ → Result (Vec ℕ Global) PointsFault → Type 0
 JudgesBody bytes wants (Ok body) = (body.items ≡ drop 8 bytes) × (length body.items ≡ wants)

@@ -1,5 +1,6 @@
 //! What may be wrong with a file of points.
-use ann_shelf::Quantity;
+use ann_shelf::{Quantity, Slip};
+use std::alloc::AllocError;
 use thiserror::Error;
 
 /// A rule of files of points, in the order in which they are tried. Between the dimension and the body stand the limits.
@@ -39,4 +40,29 @@ pub enum PointsFault {
     /// There was no memory for the points.
     #[error("out of memory")]
     NoMemory,
+}
+
+impl From<Slip> for PointsFault {
+    ghost use Rattle.std.specs.Prelude.{◌≡◌};
+    ghost use Rattle.bin_files.specs.Read.{fault_of};
+
+    ghost from_gives = { λ slip fault. fault ≡ fault_of slip };
+
+    fn from(slip: Slip) -> PointsFault {
+        match slip {
+            Slip::Failed => PointsFault::Read,
+            Slip::NoMemory => PointsFault::NoMemory,
+        }
+    }
+}
+
+impl From<AllocError> for PointsFault {
+    ghost use Rattle.std.specs.Prelude.{◌≡◌};
+    ghost use Rattle.bin_files.specs.declared.fault.PointsFault.TheVariants.{NoMemory};
+
+    ghost from_gives = { λ _ fault. fault ≡ NoMemory };
+
+    fn from(_error: AllocError) -> PointsFault {
+        PointsFault::NoMemory
+    }
 }

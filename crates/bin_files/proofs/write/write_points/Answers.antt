@@ -1,22 +1,43 @@
-use Rattle.std.proofs.Common.{[], ◌++◌, ap, Err, ◌∙◌}
-use Rattle.bin_files.specs.Points.{text}
+use Rattle.std.proofs.Common.{◌≡◌, ◌++◌, [], ap, subst, inr, ◌∙◌, Some, IfSome}
+use Rattle.std.proofs.lemmas.Result.{on_ok_weaker}
+use Rattle.ann_shelf.specs.Files.{with_file}
+use Rattle.ann_shelf.proofs.Grow.{grows_then, finished}
+use Rattle.ann_shelf.proofs.Only.{only_writes_then}
+use Rattle.ann_shelf.proofs.Results.{passed_on}
+use Rattle.bin_files.specs.Points.{file_bytes, text}
 use Rattle.bin_files.specs.Rows.{cells}
-use Rattle.bin_files.specs.Write.{header_text}
-use Rattle.std.proofs.lemmas.List.{append-nil}
-use Rattle.bin_files.proofs.Writes.{begin_slipped, append_slipped, grown_told}
 use Rattle.bin_files.proofs.write.write_points.Goals as goal
 
-pub returns-in-Err-clause-err : goal.returns-in-Err-clause-err
-returns-in-Err-clause-err g c = begin_slipped (g.F.Shelf.held c.args.shelf.now) (g.F.Shelf.held c.begin.new.self) c.args.name.now (text c.args.points.now.vectors) c.in-Err.slip
-    (λ e. c.in-Err.ensures.failed (ap Err e)) (λ e. c.in-Err.ensures.no_memory (ap Err e))
+pub returns-in_err-append_all-clause-only_writes : goal.returns-in_err-append_all-clause-only_writes
+returns-in_err-append_all-clause-only_writes g c =
+    only_writes_then _ _ _ _ c.in_ok-begin.ensures.only_writes c.in_err-append_all.ensures.only_writes
+    (λ told. inr (passed_on c.from_residual-in_err-append_all.result _ _ c.from_residual-in_err-append_all.ensures.1 told))
 
-pub returns-in-Err-append_all-clause-err : goal.returns-in-Err-append_all-clause-err
-returns-in-Err-append_all-clause-err g c = append_slipped (g.F.Shelf.held c.args.shelf.now) (g.F.Shelf.held c.begin.new.self) (g.F.Shelf.held c.append_all.new.shelf) c.args.name.now [] c.header_of-header.result (cells c.args.points.now.vectors) (text c.args.points.now.vectors)
-    c.in-Ok.ensures.ok c.in-Err-append_all.ensures.err (ap (λ h. h ++ cells c.args.points.now.vectors) c.header_of-header.ensures)
+pub returns-in_err-append_points-clause-only_writes : goal.returns-in_err-append_points-clause-only_writes
+returns-in_err-append_points-clause-only_writes g c =
+    only_writes_then _ _ _ _ (only_writes_then _ _ _ _ c.in_ok-begin.ensures.only_writes c.in_ok-append_all.ensures.only_writes (λ told. inr told)) c.in_err-append_points.ensures.only_writes
+    (λ told. inr (passed_on c.from_residual-in_err-append_points.result _ _ c.from_residual-in_err-append_points.ensures.1 told))
 
-pub returns-in-Err-append_all-2-clause-err : goal.returns-in-Err-append_all-2-clause-err
-returns-in-Err-append_all-2-clause-err g c =
-    append_slipped (g.F.Shelf.held c.args.shelf.now) (g.F.Shelf.held c.append_all.new.shelf) (g.F.Shelf.held c.append_all-2.new.shelf) c.args.name.now c.header_of-header.result c.as_bytes.result.now [] (text c.args.points.now.vectors)
-    (grown_told (g.F.Shelf.held c.args.shelf.now) (g.F.Shelf.held c.begin.new.self) (g.F.Shelf.held c.append_all.new.shelf) c.args.name.now [] c.header_of-header.result c.in-Ok.ensures.ok c.in-Ok-append_all.ensures.ok)
-    c.in-Err-append_all-2.ensures.err
-    (append-nil _ ∙ ap (λ h. h ++ c.as_bytes.result.now) c.header_of-header.ensures ∙ ap (λ b. header_text c.args.points.now.vectors ++ b) c.as_bytes.ensures)
+pub returns-clause-ok : goal.returns-clause-ok
+returns-clause-ok g c =
+    let X = c.args.points.now in
+    let name = c.args.name.now in
+    let body = file_bytes X.element (cells X.vectors) in
+    let begun0 = (g.F.Shelf.shown c.args.shelf.now).begun in
+    let begun1 = (g.F.Shelf.shown c.begin.new.self).begun in
+    let begun2 = (g.F.Shelf.shown c.append_all.new.shelf).begun in
+    let begun3 = (g.F.Shelf.shown c.append_points.new.shelf).begun in
+    let header = c.header_of-header.result in
+    let whole = grows_then begun0 begun2 begun3 name header body (grows_then begun0 begun1 begun2 name [] header c.in_ok-begin.ensures.ok c.in_ok-append_all.ensures.ok) c.in_ok-append_points.ensures.ok in
+    on_ok_weaker _
+    (finished begun0 begun3 (g.F.Shelf.shown c.args.shelf.now).held (g.F.Shelf.shown c.append_points.new.shelf).held (g.F.Shelf.shown c.finish.new.self).held name (text X)
+    (g.met.F.Shelf.tells_begun c.args.shelf.now)
+    (subst (λ t. IfSome begun0 (λ files. begun3 ≡ Some (with_file files name t))) (ap (λ h. h ++ body) c.header_of-header.ensures) whole)
+    (c.in_ok-append_points.ensures.held ∙ c.in_ok-append_all.ensures.held ∙ c.in_ok-begin.ensures.held))
+    c.finish.ensures.ok
+
+pub returns-clause-only_writes : goal.returns-clause-only_writes
+returns-clause-only_writes g c =
+    only_writes_then _ _ _ _
+    (only_writes_then _ _ _ _ (only_writes_then _ _ _ _ c.in_ok-begin.ensures.only_writes c.in_ok-append_all.ensures.only_writes (λ told. inr told)) c.in_ok-append_points.ensures.only_writes (λ told. inr told))
+    c.finish.ensures.only_writes (λ told. inr told)
