@@ -3,6 +3,7 @@ ghost use Rattle.std.specs.Prelude.{◌≡◌, ◌+◌, ◌*◌, ◌<◌, ◌≤
 ghost use Rattle.std.specs.Simd.Lanes.{zip2, chunk, sum_l};
 ghost use Rattle.ann_defs.specs.Distance.{squared_gap, dist_of};
 
+use ann_defs::MAX_DIM;
 use std::simd::prelude::*;
 
 /// The sum over as many whole chunks of N bytes as there are from `from` on. The answers are the sum and the place of
@@ -12,7 +13,7 @@ use std::simd::prelude::*;
 pub fn by_lanes<const N: usize>(a: &[u8], b: &[u8], from: usize) -> (u32, usize)
     requires lanes { 0 < N }
     requires alike { length a.now ≡ length b.now }
-    requires short { length a.now ≤ 2048 }
+    requires short { length a.now ≤ MAX_DIM }
     requires from { from ≤ length a.now }
     ensures sum { result.0 + dist_of (drop result.1 a.now) (drop result.1 b.now) ≡ dist_of (drop from a.now) (drop from b.now) }
     ensures rest { result.1 ≤ length a.now }

@@ -7,8 +7,6 @@
 
 mod lanes;
 mod squared;
-#[cfg(test)]
-mod tests;
 
 pub use ann_defs::Near;
 pub use squared::dist;

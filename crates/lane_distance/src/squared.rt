@@ -3,6 +3,7 @@ ghost use Rattle.std.specs.Prelude.{◌≡◌, ◌*◌, ◌≤◌, length};
 ghost use Rattle.ann_defs.specs.Distance.{dist_of};
 
 use crate::lanes::by_lanes;
+use ann_defs::MAX_DIM;
 
 /// The sum, over all places, of the squared difference of the two bytes there.
 ///
@@ -10,7 +11,7 @@ use crate::lanes::by_lanes;
 /// and then one of 16 are taken in lanes, and what is left byte by byte.
 pub fn dist(a: &[u8], b: &[u8]) -> u32
     requires alike { length a.now ≡ length b.now }
-    requires short { length a.now ≤ 2048 }
+    requires short { length a.now ≤ MAX_DIM }
     ensures value { result ≡ dist_of a.now b.now }
     ensures bound { result ≤ 65025 * length a.now }
 {

@@ -2,6 +2,7 @@
 ghost use Rattle.std.specs.Prelude.{◌≡◌, ◌+◌, ◌<◌, ◌≤◌, ℕ, max, IsSome, IsNone, IfSome, ◌↔◌};
 ghost use Rattle.ann_defs.specs.BatchInsert.{bound_at, total_of, default_cap};
 
+use ann_defs::MAX_POINTS;
 use std::marker::Model;
 
 /// The batches of `n` points, given one after another.
@@ -22,13 +23,14 @@ pub struct Batches {
 impl Model for Batches {
     ghost use Rattle.std.specs.Prelude.{◌≡◌, ◌≤◌};
     ghost use Rattle.ann_defs.specs.BatchInsert.{bound_at, total_of};
+    ghost use Rattle.ann_defs.specs.declared.limits.TheConstants.{MAX_POINTS};
     ghost use Rattle.prefix_batches.specs.Progress.{Progress};
 
     ghost Value = { Progress };
 
     ghost view = { λ b. record { n = b.n; cap = b.cap; done = b.done } };
 
-    ghost invariant = { λ b. (1 ≤ b.n) × (b.n ≤ 4194304) × (1 ≤ b.cap) × (b.cap ≤ 4194304)
+    ghost invariant = { λ b. (1 ≤ b.n) × (b.n ≤ MAX_POINTS) × (1 ≤ b.cap) × (b.cap ≤ MAX_POINTS)
         × (b.total ≡ total_of b.n b.cap) × (b.done ≤ b.total) × (b.reached ≡ bound_at b.n b.cap b.done) };
 }
 
@@ -37,8 +39,8 @@ impl Batches {
     ///
     /// Takes as many steps as there are batches.
     pub fn new(n: u32, cap: u32) -> Batches
-        requires points { (1 ≤ n) × (n ≤ 4194304) }
-        requires cap { (1 ≤ cap) × (cap ≤ 4194304) }
+        requires points { (1 ≤ n) × (n ≤ MAX_POINTS) }
+        requires cap { (1 ≤ cap) × (cap ≤ MAX_POINTS) }
         ensures { result ≡ record { n = n; cap = cap; done = 0 } }
     {
         let total = count_batches(n, cap);
@@ -83,8 +85,8 @@ impl Batches {
 
 // The bound that follows a bound below n.
 fn bound_after(n: u32, cap: u32, bound: u32) -> u32
-    requires points { (1 ≤ n) × (n ≤ 4194304) }
-    requires cap { (1 ≤ cap) × (cap ≤ 4194304) }
+    requires points { (1 ≤ n) × (n ≤ MAX_POINTS) }
+    requires cap { (1 ≤ cap) × (cap ≤ MAX_POINTS) }
     requires bound { bound < n }
     ensures next { (k : ℕ) → bound ≡ bound_at n cap k → result ≡ bound_at n cap (k + 1) }
     ensures rises { bound < result }
@@ -98,8 +100,8 @@ fn bound_after(n: u32, cap: u32, bound: u32) -> u32
 
 // How many batches there are.
 fn count_batches(n: u32, cap: u32) -> u32
-    requires points { (1 ≤ n) × (n ≤ 4194304) }
-    requires cap { (1 ≤ cap) × (cap ≤ 4194304) }
+    requires points { (1 ≤ n) × (n ≤ MAX_POINTS) }
+    requires cap { (1 ≤ cap) × (cap ≤ MAX_POINTS) }
     ensures { result ≡ total_of n cap }
 {
     let mut count = 0;
@@ -118,46 +120,4 @@ pub fn default_cap(n: u32) -> u32
     ensures bound { result ≤ max 1 n }
 {
     n.div_ceil(50).max(1)
-}
-
-#[cfg(test)]
-mod tests {
-    use super::*;
-
-    #[test]
-    fn ten_points_at_cap_three_come_in_five_batches(rt: HostRuntime) {
-        let mut batches = Batches::new(10, 3);
-        assert_eq!(rt; batches.total(), 5);
-        for bounds in [(0, 1), (1, 2), (2, 4), (4, 7), (7, 10)] {
-            assert_eq!(rt; batches.next(), Some(bounds));
-        }
-        assert_eq!(rt; batches.next(), None);
-        assert_eq!(rt; batches.next(), None);
-        assert_eq!(rt; batches.total(), 5);
-    }
-
-    #[test]
-    fn one_point_is_one_batch(rt: HostRuntime) {
-        let mut batches = Batches::new(1, 4194304);
-        assert_eq!(rt; batches.next(), Some((0, 1)));
-        assert_eq!(rt; batches.next(), None);
-        assert_eq!(rt; batches.total(), 1);
-    }
-
-    #[test]
-    fn at_cap_one_each_point_is_a_batch(rt: HostRuntime) {
-        let mut batches = Batches::new(4, 1);
-        assert_eq!(rt; batches.total(), 4);
-        for bounds in [(0, 1), (1, 2), (2, 3), (3, 4)] {
-            assert_eq!(rt; batches.next(), Some(bounds));
-        }
-        assert_eq!(rt; batches.next(), None);
-    }
-
-    #[test]
-    fn the_default_cap_is_a_fiftieth(rt: HostRuntime) {
-        for (n, cap) in [(1, 1), (50, 1), (51, 2), (1000, 20), (4194304, 83887)] {
-            assert_eq!(rt; default_cap(n), cap, "of {n} points");
-        }
-    }
 }

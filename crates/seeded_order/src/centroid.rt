@@ -4,6 +4,7 @@ ghost use Rattle.std.specs.List.{sum_by, range_with_len};
 ghost use Rattle.ann_defs.specs.Distance.{squared_gap, dim_of};
 ghost use Rattle.seeded_order.specs.Medoid.{column_sum, medoid_of};
 
+use ann_defs::{MAX_DIM, MAX_POINTS};
 use ann_shelf::NoMemory;
 use bin_files::Points;
 use std::alloc::Global;
@@ -35,7 +36,7 @@ fn column_sums(alloc: Global, points: &Points) -> Result<Vec<u64>, NoMemory>
 
 // The squared difference of n times a byte and the sum of its column.
 fn column_gap(n: u32, byte: u8, sum: u64) -> u64
-    requires n { n ≤ 4194304 }
+    requires n { n ≤ MAX_POINTS }
     requires sum { sum ≤ 1069547520 }
     ensures value { result ≡ squared_gap (n * byte) sum }
     ensures bound { result ≤ 1152921504606846976 }
@@ -47,9 +48,9 @@ fn column_gap(n: u32, byte: u8, sum: u64) -> u64
 // The squared distance of n times a point to the sums of the columns.
 fn spread_of(sums: &[u64], point: &[u8], n: u32) -> u128
     requires alike { length sums.now ≡ length point.now }
-    requires short { length point.now ≤ 2048 }
+    requires short { length point.now ≤ MAX_DIM }
     requires few { (j : ℕ) → j < length sums.now → slice_index sums.now j ≤ 1069547520 }
-    requires n { n ≤ 4194304 }
+    requires n { n ≤ MAX_POINTS }
     ensures { result ≡ sum_by (λ j. squared_gap (n * slice_index point.now j) (slice_index sums.now j)) (range_with_len 0 (length point.now)) }
 {
     let mut total: u128 = 0;

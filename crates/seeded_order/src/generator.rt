@@ -5,6 +5,7 @@ ghost use Rattle.std.specs.List.{range_with_len};
 ghost use Rattle.seeded_order.specs.Generator.{generated_byte, made_points_of};
 
 use crate::words::words_from;
+use ann_defs::{MAX_CELLS, MAX_DIM, MAX_POINTS};
 use ann_shelf::NoMemory;
 use bin_files::Points;
 use rand_core::utils::NextWord;
@@ -48,10 +49,10 @@ pub fn made_points(
     seed: u64,
     first: u64,
 ) -> Result<Points, NoMemory>
-    requires count { (1 ≤ count) × (count ≤ 4194304) }
-    requires dim { (1 ≤ dim) × (dim ≤ 2048) }
-    requires cells { count * dim ≤ 1073741824 }
-    requires first { first ≤ 1073741824 }
+    requires count { (1 ≤ count) × (count ≤ MAX_POINTS) }
+    requires dim { (1 ≤ dim) × (dim ≤ MAX_DIM) }
+    requires cells { count * dim ≤ MAX_CELLS }
+    requires first { first ≤ MAX_CELLS }
     ensures { IfOk result (λ p. p.vectors ≡ made_points_of count dim seed first) }
 {
     let len = u64::from(count) * u64::from(dim);

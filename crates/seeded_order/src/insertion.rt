@@ -6,7 +6,7 @@ ghost use Rattle.seeded_order.specs.Words.{word_of};
 
 use crate::centroid::medoid;
 use crate::words::words_from;
-use ann_defs::{OrderKind, StartKind};
+use ann_defs::{MAX_POINTS, OrderKind, StartKind};
 use ann_shelf::NoMemory;
 use bin_files::Points;
 use rand_core::utils::NextWord;
@@ -16,7 +16,7 @@ use std::alloc::Global;
 ///
 /// Memory: four bytes for each id.
 pub fn file_order(alloc: Global, n: u32) -> Result<Vec<u32>, NoMemory>
-    requires { (1 ≤ n) × (n ≤ 4194304) }
+    requires { (1 ≤ n) × (n ≤ MAX_POINTS) }
     ensures { IfOk result (λ v. v.items ≡ file_order_of n) }
 {
     let mut ids = Vec::with_capacity(alloc, n as usize)?;
@@ -28,7 +28,7 @@ pub fn file_order(alloc: Global, n: u32) -> Result<Vec<u32>, NoMemory>
 
 // Each id with its word.
 fn keyed_ids(alloc: Global, n: u32, seed: u64) -> Result<Vec<(u64, u32)>, NoMemory>
-    requires { (1 ≤ n) × (n ≤ 4194304) }
+    requires { (1 ≤ n) × (n ≤ MAX_POINTS) }
     ensures { IfOk result (λ v. v.items ≡ map (λ id. (word_of seed 1 id, id)) (range_with_len 0 n)) }
 {
     let mut words = words_from(seed, 1, 0);
@@ -55,7 +55,7 @@ fn ids_in(alloc: Global, keys: &[(u64, u32)]) -> Result<Vec<u32>, NoMemory>
 /// It stands for the random permutation in which DiskANN (Algorithm 3) inserts its points, and the seed alone decides
 /// it. Memory: twenty bytes for each id, of which four are kept.
 pub fn order(alloc: Global, n: u32, seed: u64) -> Result<Vec<u32>, NoMemory>
-    requires { (1 ≤ n) × (n ≤ 4194304) }
+    requires { (1 ≤ n) × (n ≤ MAX_POINTS) }
     ensures { IfOk result (λ v. v.items ≡ seeded_order_of n seed) }
 {
     let mut keys = keyed_ids(alloc, n, seed)?;
@@ -83,7 +83,7 @@ pub fn first_to_front(list: &mut [u32], id: u32)
 
 // The order before the start is chosen.
 fn ids_by(alloc: Global, n: u32, kind: OrderKind, seed: u64) -> Result<Vec<u32>, NoMemory>
-    requires { (1 ≤ n) × (n ≤ 4194304) }
+    requires { (1 ≤ n) × (n ≤ MAX_POINTS) }
     ensures { IfOk result (λ v. v.items ≡ base_order kind n seed) }
 {
     match kind {

@@ -3,6 +3,7 @@ ghost use Rattle.std.specs.Prelude.{◌≡◌, ◌≤◌, IfOk};
 ghost use Rattle.seeded_order.specs.Levels.{level_of, levels_of};
 
 use crate::words::words_from;
+use ann_defs::MAX_POINTS;
 use ann_shelf::NoMemory;
 use rand_core::utils::NextWord;
 use std::alloc::Global;
@@ -29,7 +30,7 @@ pub fn level(word: u64, bits: u32, max: u8) -> u8
 ///
 /// Memory: a byte for each id.
 pub fn levels(alloc: Global, n: u32, seed: u64, bits: u32, max: u8) -> Result<Vec<u8>, NoMemory>
-    requires n { (1 ≤ n) × (n ≤ 4194304) }
+    requires n { (1 ≤ n) × (n ≤ MAX_POINTS) }
     requires bits { (1 ≤ bits) × (bits ≤ 8) }
     requires max { max ≤ 15 }
     ensures { IfOk result (λ v. v.items ≡ levels_of n seed bits max) }

@@ -17,6 +17,3 @@ pub use generator::made_points;
 pub use insertion::{file_order, first_to_front, insertion_order_of, order};
 pub use layering::{level, levels};
 pub use words::word;
-
-#[cfg(test)]
-mod tests;

@@ -21,4 +21,4 @@ returns c =
     let product : c.from.result * c.from-2.result ≡ c.args.count * c.args.dim = λ i. c.from.ensures i * c.from-2.ensures i in
     let count = product_div (vec_len c.in_ok-bytes.bytes) c.args.count c.args.dim (c.in_ok-bytes.ensures.len ∙ product) c.requires.dim.0 in
     let bytes = c.in_ok-bytes.ensures.bytes ∙ ap (λ (n : ℕ). map (generated_byte c.args.seed) (range_with_len c.args.first n)) product in
-    c.from_bytes.ensures ∙ (λ i. rows (count i) c.args.dim (bytes i))
+    c.from_bytes.ensures.vectors ∙ (λ i. rows (count i) c.args.dim (bytes i))
