@@ -1,15 +1,15 @@
 -- What is known of an index whose layers were read.
-use Rattle.std.proofs.Common.{◌≡◌, ℕ, ◌+◌, ◌≤◌, true, nat_lt, List, ◌∷◌, length, sym, ap, subst, ◌∙◌, arith, None}
+use Rattle.std.proofs.Common.{◌≡◌, ℕ, ◌+◌, ◌≤◌, true, nat_lt, List, ◌∷◌, length, refl, sym, ap, subst, ◌∙◌, arith, None}
 use Rattle.std.specs.List.{sum_by, range_with_len, enumerate_from}
 use Rattle.std.proofs.lemmas.Bool.{eqb-true}
 use Rattle.graph_files.specs.declared.header.Header.{Header}
 use Rattle.graph_files.specs.Header.{is_read, form_fault, limit_fault}
-use Rattle.graph_files.specs.Index.{Contents}
-use Rattle.graph_files.specs.Members.{AreRows}
-use Rattle.graph_files.specs.WellFormed.{layers_fit, base_bound, layer_words, AreRowsOf, AreFurtherLayers, IsWellFormed, IsWithinLimits}
+use Rattle.graph_rows.specs.Index.{Contents}
+use Rattle.graph_rows.specs.Members.{AreRows}
+use Rattle.graph_rows.specs.WellFormed.{layers_fit, base_bound, layer_words, AreRowsOf, AreFurtherLayers, IsWellFormed, IsWithinLimits}
 use Rattle.graph_files.proofs.IndexLaws.{form_of_none, small_of_none, degree_small}
 use Rattle.graph_files.proofs.Layering.{rows_counted}
-use Rattle.graph_files.proofs.LayerLists.{ids_enumerate}
+use Rattle.graph_rows.proofs.LayerLists.{ids_enumerate}
 use Rattle.graph_files.proofs.UpperLoop.{Entries}
 
 -- the kinds that are read are kinds
@@ -18,7 +18,7 @@ kind_of_read kind read = let is : kind ≡ 1 = eqb-true kind 1 read in (omega ar
 
 module _ (h : Header) (kind : ℕ) (rows : List (List ℕ)) (upper : List Entries) (formed : form_fault h ≡ None) (limits : limit_fault h ≡ None) (is : kind ≡ h.kind) where
   abbrev index : ℕ → Contents
-  index k = record { kind = k; count = h.count; dim = h.dim; degree = h.degree; start = h.start; layers = enumerate_from 0 rows ∷ upper }
+  index k = record { kind = k; count = h.count; dim = h.dim; degree = h.degree; start = h.start; layers = enumerate_from 0 rows ∷ upper; stamp = None }
 
   pub body_formed : (bound : ℕ) → bound ≡ base_bound h.kind h.degree → length rows ≡ h.count → AreRows (λ id. nat_lt id h.count) bound (range_with_len 0 h.count) (length rows) rows
       → AreFurtherLayers h.start h.degree (λ id. nat_lt id h.count) upper → length upper + 1 ≡ h.layers → IsWellFormed (index kind)
@@ -36,6 +36,7 @@ module _ (h : Header) (kind : ℕ) (rows : List (List ℕ)) (upper : List Entrie
         base = ids_enumerate 0 rows ∙ ap (range_with_len 0) count;
         rows = subst (λ b. AreRowsOf (λ id. nat_lt id h.count) b (enumerate_from 0 rows)) bound_is (rows_counted (λ id. nat_lt id h.count) bound h.count rows count are);
         upper = further;
+        stamp = refl;
       } in
       subst (λ k. IsWellFormed (index k)) (sym is) whole
 

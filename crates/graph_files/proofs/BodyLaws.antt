@@ -1,12 +1,12 @@
 -- The layers of a file from their parts.
 use Rattle.std.proofs.Common.{◌≡◌, ℕ, ◌-◌, List, [], ◌∷◌, length, drop, eqb, Bool, true, false, not, cond, Some, None, Result, Ok, refl, sym, ap, subst, ◌∙◌, nat_lt}
 use Rattle.std.specs.List.{range_with_len, enumerate_from}
-use Rattle.graph_files.specs.Index.{Contents}
+use Rattle.graph_rows.specs.Index.{Contents}
 use Rattle.graph_files.specs.declared.header.Header.{Header}
 use Rattle.graph_files.specs.declared.fault.IndexFault.{IndexFault}
 use Rattle.graph_files.specs.declared.fault.IndexFault.TheVariants.{Malformed}
 use Rattle.graph_files.specs.declared.fault.IndexRule.TheVariants.{Trailing}
-use Rattle.graph_files.specs.WellFormed.{base_bound, layer_words}
+use Rattle.graph_rows.specs.WellFormed.{base_bound, layer_words}
 use Rattle.graph_files.specs.Grammar.{◌>>=◌, unless, rows_at, layers_at, end_fault, body_at, header_at, index_in}
 use Rattle.graph_files.specs.Reading.{Fails, Gives}
 use Rattle.graph_files.proofs.RowLoop.{fails_with, fails_before, fails_along}
@@ -19,7 +19,7 @@ module _ (h : Header) (file : List ℕ) (at : ℕ) where
   the_upper place = layers_at h.start h.degree (λ id. nat_lt id h.count) h.count (layer_words h.count (base_bound h.kind h.degree)) file (h.layers - 1) place []
 
   abbrev pub made : List (List ℕ) → List (List (ℕ × List ℕ)) → Contents
-  made base upper = record { kind = h.kind; count = h.count; dim = h.dim; degree = h.degree; start = h.start; layers = enumerate_from 0 base ∷ upper }
+  made base upper = record { kind = h.kind; count = h.count; dim = h.dim; degree = h.degree; start = h.start; layers = enumerate_from 0 base ∷ upper; stamp = None }
 
   abbrev with_upper : List (List ℕ) × ℕ → List (List (ℕ × List ℕ)) × ℕ → Result Contents IndexFault
   with_upper base upper = unless (end_fault file upper.1) (Ok (made base.0 upper.0))

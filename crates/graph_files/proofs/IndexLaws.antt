@@ -13,9 +13,9 @@ use Rattle.graph_files.specs.declared.header.Header.{Header}
 use Rattle.graph_files.specs.declared.fault.IndexFault.{IndexFault}
 use Rattle.graph_files.specs.Grammar.{◌>>=◌, unless, rows_at, layers_at, end_fault, header_at, body_at, index_in}
 use Rattle.graph_files.specs.Header.{header_in, is_read, form_fault, limit_fault}
-use Rattle.graph_files.specs.Index.{Contents, word, words, layer_ids, layer_rows, rows_bytes, layer_bytes, layers_bytes, header_words, text_of}
-use Rattle.graph_files.specs.WellFormed.{layers_fit, base_bound, greatest_degree, layer_words}
-use Rattle.graph_files.proofs.LayerLists.{rows_enumerate}
+use Rattle.graph_rows.specs.Index.{Contents, word, words, layer_ids, layer_rows, rows_bytes, layer_bytes, layers_bytes, header_words, text_of}
+use Rattle.graph_rows.specs.WellFormed.{layers_fit, base_bound, greatest_degree, layer_words}
+use Rattle.graph_rows.proofs.LayerLists.{rows_enumerate}
 use Rattle.graph_files.proofs.IndexBytes.{text_is}
 use Rattle.graph_files.proofs.ReadTexts.{bind_ok, unless_ok, cond_ok, ok_same, AreBytes, word_there, rows_told, layers_told}
 use Rattle.graph_files.proofs.RowLoop.{member_is}
@@ -131,7 +131,7 @@ header_told file h e =
     (ltb-false (length file) 32 c.0, is, ap form_fault is ∙ f.0, ap limit_fault is ∙ l.0)
 
 abbrev made : Header → List (List ℕ) → List Entries → Contents
-made h base upper = record { kind = h.kind; count = h.count; dim = h.dim; degree = h.degree; start = h.start; layers = enumerate_from 0 base ∷ upper }
+made h base upper = record { kind = h.kind; count = h.count; dim = h.dim; degree = h.degree; start = h.start; layers = enumerate_from 0 base ∷ upper; stamp = None }
 
 -- what was read from bytes is what they say
 pub index_text : (file : List ℕ) (i : Contents) → AreBytes file → index_in file ≡ Ok i → file ≡ text_of i

@@ -1,5 +1,5 @@
 -- The text of a well-formed index within the limits is read as this index.
-use Rattle.std.proofs.Common.{◌≡◌, ℕ, ◌+◌, ◌-◌, ◌^◌, ◌<◌, ◌≤◌, Bool, true, cond, nat_lt, eqb, List, [], ◌∷◌, ◌++◌, length, drop, Some, None, Ok, Err, refl, sym, ap, ◌∙◌, arith, length-append}
+use Rattle.std.proofs.Common.{◌≡◌, ℕ, ◌+◌, ◌-◌, ◌^◌, ◌<◌, ◌≤◌, Bool, true, cond, nat_lt, eqb, List, [], ◌∷◌, ◌++◌, length, drop, Option, Some, None, Ok, Err, refl, sym, ap, ◌∙◌, arith, length-append}
 use Rattle.std.specs.List.{range_with_len, enumerate_from, flat_map}
 use Rattle.std.proofs.lemmas.Bool.{le-ltb, ltb-true}
 use Rattle.std.proofs.lemmas.List.{append-nil, length-map}
@@ -9,8 +9,9 @@ use Rattle.graph_files.specs.declared.fault.IndexFault.TheVariants.{Malformed}
 use Rattle.graph_files.specs.declared.fault.IndexRule.TheVariants.{ShortHeader, Trailing}
 use Rattle.graph_files.specs.Grammar.{◌>>=◌, unless, rows_at, layers_at, end_fault, header_at, body_at, index_in}
 use Rattle.graph_files.specs.Header.{header_in, is_read, form_fault, limit_fault}
-use Rattle.graph_files.specs.Index.{Contents, words, layer_ids, layer_rows, rows_bytes, layer_bytes, layers_bytes, header_words, text_of}
-use Rattle.graph_files.specs.WellFormed.{base_bound, layer_words, IsWellFormed, IsWithinLimits}
+use Rattle.graph_rows.specs.declared.stamp.Stamp.{Stamp}
+use Rattle.graph_rows.specs.Index.{Contents, words, layer_ids, layer_rows, rows_bytes, layer_bytes, layers_bytes, header_words, text_of}
+use Rattle.graph_rows.specs.WellFormed.{base_bound, layer_words, IsWellFormed, IsWithinLimits}
 use Rattle.graph_files.proofs.IndexBytes.{text_is}
 use Rattle.graph_files.proofs.IndexLaws.{IsForm, IsSmall, none_of_form, none_of_small, layers_some, number, enumerate_is, bound_small, holds_below}
 use Rattle.graph_files.proofs.ReadTexts.{ok_same}
@@ -19,7 +20,7 @@ use Rattle.graph_files.proofs.UpperLoop.{Entries}
 
 module _ (kind count dim degree start : ℕ) (base : Entries) (upper : List Entries) where
   abbrev index : Contents
-  index = record { kind = kind; count = count; dim = dim; degree = degree; start = start; layers = base ∷ upper }
+  index = record { kind = kind; count = count; dim = dim; degree = degree; start = start; layers = base ∷ upper; stamp = None }
 
   abbrev text : List ℕ
   text = words (header_words index) ++ layers_bytes (base ∷ upper)
@@ -96,7 +97,7 @@ module _ (kind count dim degree start : ℕ) (base : Entries) (upper : List Entr
         ∙ layers_here text start degree held count (layer_words count bound) upper [] upper_place [] (holds_below count limits.count) formed.count.1 thin formed.upper limits.words after_base
 
     abbrev made : List (List ℕ) → List Entries → Contents
-    made base upper = record { kind = kind; count = count; dim = dim; degree = degree; start = start; layers = enumerate_from 0 base ∷ upper }
+    made base upper = record { kind = kind; count = count; dim = dim; degree = degree; start = start; layers = enumerate_from 0 base ∷ upper; stamp = None }
 
     ended : end_fault text end ≡ None
     ended = ap (λ xs. cond (eqb (length xs) 0) None (Some (Malformed end Trailing))) at_end
@@ -105,7 +106,7 @@ module _ (kind count dim degree start : ℕ) (base : Entries) (upper : List Entr
     whole =
         let many : count ≡ length base = sym (length-range_with_len 0 count) ∙ ap length (sym formed.base) ∙ length-map base (λ (e : ℕ × List ℕ). e.0) in
         let listed : layer_ids base ≡ range_with_len 0 (length base) = formed.base ∙ ap (range_with_len 0) many in
-        ap (λ (l : Entries). record { kind = kind; count = count; dim = dim; degree = degree; start = start; layers = l ∷ upper }) (enumerate_is 0 base listed)
+        ap (λ (l : Entries). record { kind = kind; count = count; dim = dim; degree = degree; start = start; layers = l ∷ upper; stamp = None }) (enumerate_is 0 base listed)
 
     pub parts_read : index_in (text_of index) ≡ Ok index
     unfolding index_in body_at
@@ -117,15 +118,19 @@ module _ (kind count dim degree start : ℕ) (base : Entries) (upper : List Entr
         ∙ ap (λ o. unless o (Ok (made rows upper))) ended
         ∙ ap (λ i. Ok i) whole
 
-split : (kind count dim degree start : ℕ) (layers : List Entries) → IsWellFormed (record { kind = kind; count = count; dim = dim; degree = degree; start = start; layers = layers })
-    → IsWithinLimits (record { kind = kind; count = count; dim = dim; degree = degree; start = start; layers = layers }) → is_read kind ≡ true
-    → index_in (text_of (record { kind = kind; count = count; dim = dim; degree = degree; start = start; layers = layers })) ≡ Ok (record { kind = kind; count = count; dim = dim; degree = degree; start = start; layers = layers })
-split kind count dim degree start [] formed limits read = let some = layers_some kind 0 formed.layers in absurd (omega (arith, some.0))
-split kind count dim degree start (base ∷ upper) formed limits read = parts_read kind count dim degree start base upper formed limits read
+abbrev as_index : ℕ → ℕ → ℕ → ℕ → ℕ → List Entries → Option Stamp → Contents
+as_index kind count dim degree start layers stamp = record { kind = kind; count = count; dim = dim; degree = degree; start = start; layers = layers; stamp = stamp }
+
+split : (kind count dim degree start : ℕ) (layers : List Entries) (stamp : Option Stamp) → stamp ≡ None → IsWellFormed (as_index kind count dim degree start layers stamp)
+    → IsWithinLimits (as_index kind count dim degree start layers stamp) → is_read kind ≡ true
+    → index_in (text_of (as_index kind count dim degree start layers stamp)) ≡ Ok (as_index kind count dim degree start layers stamp)
+split kind count dim degree start [] None none formed limits read = let some = layers_some kind 0 formed.layers in absurd (omega (arith, some.0))
+split kind count dim degree start (base ∷ upper) None none formed limits read = parts_read kind count dim degree start base upper formed limits read
+split kind count dim degree start layers (Some stamp) none formed limits read = absurd cc
 
 -- the text of a well-formed index is read as this index
 pub index_read : (i : Contents) → IsWellFormed i → IsWithinLimits i → is_read i.kind ≡ true → index_in (text_of i) ≡ Ok i
-index_read i formed limits read = split i.kind i.count i.dim i.degree i.start i.layers formed limits read
+index_read i formed limits read = split i.kind i.count i.dim i.degree i.start i.layers i.stamp formed.stamp formed limits read
 
 -- two indexes with one text are one
 pub text_unique : (i j : Contents) → IsWellFormed i → IsWithinLimits i → is_read i.kind ≡ true → IsWellFormed j → IsWithinLimits j → is_read j.kind ≡ true → text_of i ≡ text_of j → i ≡ j

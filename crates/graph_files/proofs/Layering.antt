@@ -4,12 +4,12 @@ use Rattle.std.specs.List.{All, zip, enumerate_from, range_with_len}
 use Rattle.std.proofs.lemmas.List.Elements.{All-from_get_or}
 use Rattle.std.proofs.lemmas.List.FromFn.{length-enumerate_from, get_or-enumerate_from, get_or-range_with_len}
 use Rattle.ann_defs.specs.Graph.{has}
-use Rattle.graph_files.specs.Index.{layer_ids, layer_rows}
-use Rattle.graph_files.specs.Layers.{Ascends}
-use Rattle.graph_files.specs.Members.{AreRows}
+use Rattle.graph_rows.specs.Index.{layer_ids, layer_rows}
+use Rattle.ann_defs.specs.Ordered.{Ascends}
+use Rattle.graph_rows.specs.Members.{AreRows}
 use Rattle.graph_files.specs.Reading.{AreMembers}
-use Rattle.graph_files.specs.WellFormed.{IsRowIn, AreRowsOf, IsFurtherLayer}
-use Rattle.graph_files.proofs.LayerLists.{ids_zip, rows_zip, length-zip}
+use Rattle.graph_rows.specs.WellFormed.{IsRowIn, AreRowsOf, IsFurtherLayer}
+use Rattle.graph_rows.proofs.LayerLists.{ids_zip, rows_zip, length-zip}
 
 pub get_zip : (ids : List ℕ) (rows : List (List ℕ)) (k : ℕ) → length rows ≡ length ids → k < length ids → get_or (zip ids rows) k (0, []) ≡ (get_or ids k 0, get_or rows k [])
 get_zip [] rows k same lt = absurd (omega arith)

@@ -1,9 +1,5 @@
-pub mod BlockRows
 pub mod BodyFacts
 pub mod BodyLaws
-pub mod Examples
-pub mod Finding
-pub mod FlatIndex
 pub mod Grown
 pub mod HeaderLaws
 mod HostileFiles
@@ -11,11 +7,8 @@ pub mod IndexBytes
 pub mod IndexLaws
 pub mod IndexReads
 pub mod LayerLaws
-pub mod LayerLists
-pub mod LayerRowFacts
 pub mod Layering
 pub mod MembersLoop
-pub mod Parts
 pub mod ReadLaws
 pub mod ReadTexts
 pub mod RowLoop
@@ -23,5 +16,4 @@ pub mod RowsLoop
 pub mod Shown
 pub mod Told
 pub mod TextReads
-pub mod Totals
 pub mod UpperLoop

@@ -4,14 +4,14 @@ use Rattle.std.proofs.lemmas.Bool.{eqb-true}
 use Rattle.ann_shelf.specs.Files.{Files, bytes_of}
 use Rattle.bin_files.proofs.Pieces.{told_then, both_told}
 use Rattle.graph_files.specs.declared.header.Header.{Header}
-use Rattle.graph_files.specs.declared.index.Index.{Index}
+use Rattle.graph_rows.specs.declared.index.Index.{Index}
 use Rattle.graph_files.specs.declared.fault.IndexFault.{IndexFault}
 use Rattle.graph_files.specs.Grammar.{header_at, body_at, index_in}
 use Rattle.graph_files.specs.Header.{is_read}
-use Rattle.graph_files.specs.Index.{Contents, text_of}
+use Rattle.graph_rows.specs.Index.{Contents, text_of}
 use Rattle.graph_files.specs.Reading.{AreBytesIn, Gives}
-use Rattle.graph_files.specs.View.{contents}
-use Rattle.graph_files.specs.WellFormed.{IsWellFormed, IsWithinLimits}
+use Rattle.graph_rows.specs.View.{contents}
+use Rattle.graph_rows.specs.WellFormed.{IsWellFormed, IsWithinLimits}
 use Rattle.graph_files.proofs.BodyLaws.{index_body, gives_along}
 use Rattle.graph_files.proofs.IndexLaws.{index_text, all_bytes}
 use Rattle.graph_files.proofs.IndexReads.{index_read}

@@ -8,9 +8,9 @@ use Rattle.bin_files.specs.Points.{u32_at}
 use Rattle.ann_defs.specs.Graph.{has}
 use Rattle.graph_files.specs.declared.fault.IndexFault.{IndexFault}
 use Rattle.graph_files.specs.Grammar.{◌>>=◌, unless, word_at, id_fault, ids_at, row_at, row_size, rows_at, layer_id_fault, layer_ids_at, members_fault, start_fault, layer_at, layers_at}
-use Rattle.graph_files.specs.Index.{word, words, row_bytes, rows_bytes, layer_ids, layer_rows, layer_bytes}
-use Rattle.graph_files.specs.WellFormed.{layer_words}
-use Rattle.graph_files.proofs.LayerLists.{ids_zip, rows_zip, length-zip}
+use Rattle.graph_rows.specs.Index.{word, words, row_bytes, rows_bytes, layer_ids, layer_rows, layer_bytes}
+use Rattle.graph_rows.specs.WellFormed.{layer_words}
+use Rattle.graph_rows.proofs.LayerLists.{ids_zip, rows_zip, length-zip}
 
 pub bind_ok : {A B : Type 0} (r : Result A IndexFault) (f : A → Result B IndexFault) (y : B) → (r >>= f) ≡ Ok y → (x : A) × (r ≡ Ok x) × (f x ≡ Ok y)
 bind_ok (Ok x) f y e = (x, refl, e)

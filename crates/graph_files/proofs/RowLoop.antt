@@ -12,7 +12,7 @@ use Rattle.graph_files.specs.declared.fault.IndexRule.TheVariants.{IdRange, Self
 use Rattle.ann_defs.specs.Graph.{has}
 use Rattle.graph_files.specs.Grammar.{◌>>=◌, unless, word_at, id_fault, ids_at, row_at}
 use Rattle.graph_files.specs.Reading.{Fails}
-use Rattle.graph_files.specs.WellFormed.{IsRowIn}
+use Rattle.graph_rows.specs.WellFormed.{IsRowIn}
 
 -- a step that ended with a fault
 pub fails_with : {Y : Type 0} (fault : IndexFault) (step : Result Y IndexFault) → step ≡ Err fault → Fails fault step

@@ -1,23 +1,13 @@
 -- Rows, one after another.
 use Rattle.std.proofs.Common.{◌≡◌, ◌≢◌, inl, inr, ℕ, ◌+◌, ◌<◌, ◌≤◌, Bool, List, [], ◌∷◌, ◌++◌, length, drop, get_or, set, Result, Ok, refl, sym, ap, subst, ◌∙◌, arith, add-one, drop-cons, length-drop, get_or-set_same, get_or-set_other}
-use Rattle.std.specs.List.{range_with_len}
 use Rattle.std.proofs.lemmas.Bool.{cases_order}
 use Rattle.std.proofs.lemmas.List.{nil_from_length}
-use Rattle.std.proofs.lemmas.List.FromFn.{get_or-range_with_len, length-range_with_len}
-use Rattle.graph_files.specs.declared.members.Members.{Members}
-use Rattle.graph_files.specs.declared.members.Members.TheVariants.{Below}
 use Rattle.graph_files.specs.declared.fault.IndexFault.{IndexFault}
 use Rattle.graph_files.specs.Grammar.{◌>>=◌, row_at, rows_at, row_size}
-use Rattle.graph_files.specs.Members.{AreRows, owns}
+use Rattle.graph_rows.specs.Members.{AreRows}
 use Rattle.graph_files.specs.Reading.{Fails}
-use Rattle.graph_files.specs.WellFormed.{IsRowIn}
+use Rattle.graph_rows.specs.WellFormed.{IsRowIn}
 use Rattle.graph_files.proofs.RowLoop.{fails_before, fails_along}
-
-below_nth : (count i : ℕ) → i < length (range_with_len 0 count) → i ≡ get_or (range_with_len 0 count) i 0
-below_nth count i lt = sym (get_or-range_with_len 0 count i 0 (omega (arith, length-range_with_len 0 count)) ∙ omega arith)
-
-pub nth_below : (members : Members) (count i : ℕ) → members ≡ Below count → i < length (owns members) → i ≡ get_or (owns members) i 0
-nth_below members count i is = subst (λ m. i < length (owns m) → i ≡ get_or (owns m) i 0) (sym is) (below_nth count i)
 
 module _ (held : ℕ → Bool) (bound : ℕ) (file : List ℕ) where
   next_own : (own : List ℕ) (i id : ℕ) → i < length own → id ≡ get_or own i 0 → drop i own ≡ id ∷ drop (i + 1) own
@@ -55,6 +45,3 @@ module _ (held : ℕ → Bool) (bound : ℕ) (file : List ℕ) where
       | inr more ↦ absurd (omega arith)
     ]
   ]
-
-pub count_below : (members : Members) (count : ℕ) → members ≡ Below count → count ≡ length (owns members)
-count_below members count is = subst (λ m. count ≡ length (owns m)) (sym is) (sym (length-range_with_len 0 count))

@@ -20,9 +20,9 @@ use Rattle.graph_files.specs.declared.fault.IndexFault.TheVariants.{Malformed, T
 use Rattle.graph_files.specs.declared.fault.IndexRule.TheVariants.{Degree, LayerIds, Short}
 use Rattle.ann_shelf.specs.declared.slip.Quantity.TheVariants.{Words}
 use Rattle.graph_files.specs.Grammar.{◌>>=◌, unless, word_at, id_fault, ids_at, row_at, row_size, rows_at, layer_id_fault, layer_ids_at, members_fault, start_fault, layer_at, layers_at}
-use Rattle.graph_files.specs.Index.{word, words, row_bytes, rows_bytes, layer_ids, layer_rows, layer_bytes}
-use Rattle.graph_files.specs.Layers.{Ascends}
-use Rattle.graph_files.specs.WellFormed.{IsRowIn, AreRowsOf, IsFurtherLayer, AreFurtherLayers, layer_words}
+use Rattle.graph_rows.specs.Index.{word, words, row_bytes, rows_bytes, layer_ids, layer_rows, layer_bytes}
+use Rattle.ann_defs.specs.Ordered.{Ascends}
+use Rattle.graph_rows.specs.WellFormed.{IsRowIn, AreRowsOf, IsFurtherLayer, AreFurtherLayers, layer_words}
 use Rattle.graph_files.proofs.RowLoop.{eqb_laws, member_is}
 use Rattle.graph_files.proofs.UpperLoop.{Entries, holding, zip_parts}
 

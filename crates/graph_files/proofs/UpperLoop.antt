@@ -5,13 +5,13 @@ use Rattle.std.proofs.lemmas.List.{length-map, get_or-map}
 use Rattle.ann_defs.specs.Graph.{has}
 use Rattle.graph_files.specs.declared.fault.IndexFault.{IndexFault}
 use Rattle.graph_files.specs.Grammar.{◌>>=◌, layer_at, layers_at}
-use Rattle.graph_files.specs.Index.{layer_ids, layer_rows}
-use Rattle.graph_files.specs.Layers.{Layered}
-use Rattle.graph_files.specs.Members.{held_over, count_over}
+use Rattle.graph_rows.specs.Index.{layer_ids, layer_rows}
+use Rattle.graph_rows.specs.Layers.{Layered}
+use Rattle.graph_rows.specs.Members.{held_over, count_over}
 use Rattle.graph_files.specs.Reading.{Fails}
-use Rattle.graph_files.specs.WellFormed.{IsFurtherLayer, AreFurtherLayers, layer_words}
+use Rattle.graph_rows.specs.WellFormed.{IsFurtherLayer, AreFurtherLayers, layer_words}
 use Rattle.graph_files.proofs.RowLoop.{fails_before, fails_along}
-use Rattle.graph_files.proofs.Totals.{entries_of}
+use Rattle.graph_rows.proofs.Totals.{entries_of}
 
 abbrev pub Entries : Type 0
 Entries = List (ℕ × List ℕ)

@@ -3,13 +3,14 @@ use Rattle.std.specs.Prelude.{ℕ, zero, suc, ◌+◌, ◌-◌, ◌*◌, Bool, n
 use Rattle.std.specs.List.{enumerate_from, range_with_len, zip}
 use Rattle.bin_files.specs.Points.{u32_at}
 use Rattle.ann_shelf.specs.declared.slip.Quantity.TheVariants.{Words}
+use Rattle.ann_defs.specs.declared.limits.TheConstants.{MAX_WORDS}
 use Rattle.ann_defs.specs.Graph.{has}
 use Rattle.graph_files.specs.declared.header.Header.{Header}
 use Rattle.graph_files.specs.declared.fault.IndexFault.{IndexFault}
 use Rattle.graph_files.specs.declared.fault.IndexFault.TheVariants.{Malformed, TooLarge}
 use Rattle.graph_files.specs.declared.fault.IndexRule.TheVariants.{ShortHeader, Degree, LayerIds, IdRange, SelfEdge, DoubleEdge, Short, Trailing}
-use Rattle.graph_files.specs.Index.{Contents}
-use Rattle.graph_files.specs.WellFormed.{base_bound, layer_words}
+use Rattle.graph_rows.specs.Index.{Contents}
+use Rattle.graph_rows.specs.WellFormed.{base_bound, layer_words}
 use Rattle.graph_files.specs.Header.{header_in, form_fault, limit_fault}
 
 -- one step after another; the first fault is the answer
@@ -75,7 +76,7 @@ abbrev pub members_fault : ℕ → ℕ → ℕ → ℕ → ℕ → Option IndexF
 members_fault degree below words at members =
     if members == 0 then Some (Malformed at LayerIds)
     else if nat_lt below members then Some (Malformed at LayerIds)
-    else if nat_lt 134217728 (words + layer_words members degree) then Some (TooLarge Words (words + layer_words members degree) 134217728)
+    else if nat_lt MAX_WORDS (words + layer_words members degree) then Some (TooLarge Words (words + layer_words members degree) MAX_WORDS)
     else None
 
 -- the start is to be among the ids of each layer
@@ -112,7 +113,7 @@ unfoldable pub body_at : Header → List ℕ → ℕ → Result Contents IndexFa
 body_at h bytes at = do
   base ← rows_at (λ id. nat_lt id h.count) (base_bound h.kind h.degree) bytes (range_with_len 0 h.count) at []
   upper ← layers_at h.start h.degree (λ id. nat_lt id h.count) h.count (layer_words h.count (base_bound h.kind h.degree)) bytes (h.layers - 1) base.1 []
-  unless (end_fault bytes upper.1) (Ok (record { kind = h.kind; count = h.count; dim = h.dim; degree = h.degree; start = h.start; layers = enumerate_from 0 base.0 ∷ upper.0 }))
+  unless (end_fault bytes upper.1) (Ok (record { kind = h.kind; count = h.count; dim = h.dim; degree = h.degree; start = h.start; layers = enumerate_from 0 base.0 ∷ upper.0; stamp = None }))
 
 -- what a file holds, or its first fault
 unfoldable pub index_in : List ℕ → Result Contents IndexFault

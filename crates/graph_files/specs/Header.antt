@@ -1,8 +1,9 @@
 -- The header of a file: eight words, and the first broken rule of them.
 use Rattle.std.specs.Prelude.{ℕ, Bool, not, ◌==◌, List, Option, Some, None, nat_lt, if◌then◌else◌}
+use Rattle.ann_defs.specs.declared.limits.TheConstants.{MAX_POINTS, MAX_DIM, MAX_WORDS}
 use Rattle.bin_files.specs.Points.{u32_at}
 use Rattle.ann_shelf.specs.declared.slip.Quantity.TheVariants.{Count, Dim, Degree as DegreeOf, Words}
-use Rattle.graph_files.specs.WellFormed.{layers_fit, base_bound, greatest_degree, layer_words}
+use Rattle.graph_rows.specs.WellFormed.{layers_fit, base_bound, greatest_degree, layer_words}
 use Rattle.graph_files.specs.declared.header.Header.{Header}
 use Rattle.graph_files.specs.declared.fault.IndexFault.{IndexFault}
 use Rattle.graph_files.specs.declared.fault.IndexFault.TheVariants.{Malformed, TooLarge}
@@ -21,6 +22,10 @@ header_in bytes = record {
   layers = u32_at bytes 28;
 }
 
+-- the versions that are read
+abbrev pub is_version : ℕ → Bool
+is_version version = version == 1
+
 -- the kinds that are read
 abbrev pub is_read : ℕ → Bool
 is_read kind = kind == 1
@@ -29,7 +34,7 @@ is_read kind = kind == 1
 abbrev pub form_fault : Header → Option IndexFault
 form_fault h =
     if not (h.magic == 1313751376) then Some (Malformed 0 Magic)
-    else if not (h.version == 1) then Some (Malformed 4 Version)
+    else if not (is_version h.version) then Some (Malformed 4 Version)
     else if not (is_read h.kind) then Some (Malformed 8 Kind)
     else if h.count == 0 then Some (Malformed 12 ZeroCount)
     else if h.dim == 0 then Some (Malformed 16 ZeroDim)
@@ -41,8 +46,8 @@ form_fault h =
 -- the first quantity over its limit
 abbrev pub limit_fault : Header → Option IndexFault
 limit_fault h =
-    if nat_lt 4194304 h.count then Some (TooLarge Count h.count 4194304)
-    else if nat_lt 2048 h.dim then Some (TooLarge Dim h.dim 2048)
+    if nat_lt MAX_POINTS h.count then Some (TooLarge Count h.count MAX_POINTS)
+    else if nat_lt MAX_DIM h.dim then Some (TooLarge Dim h.dim MAX_DIM)
     else if nat_lt (greatest_degree h.kind) h.degree then Some (TooLarge DegreeOf h.degree (greatest_degree h.kind))
-    else if nat_lt 134217728 (layer_words h.count (base_bound h.kind h.degree)) then Some (TooLarge Words (layer_words h.count (base_bound h.kind h.degree)) 134217728)
+    else if nat_lt MAX_WORDS (layer_words h.count (base_bound h.kind h.degree)) then Some (TooLarge Words (layer_words h.count (base_bound h.kind h.degree)) MAX_WORDS)
     else None

@@ -1,11 +1,4 @@
-pub mod Blocks
-pub mod Flat
 pub mod Grammar
 pub mod Header
-pub mod Index
-pub mod Layers
-pub mod Members
 pub mod Reading
-pub mod View
-pub mod WellFormed
 pub mod Writing

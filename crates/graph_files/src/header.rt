@@ -1,22 +1,17 @@
 //! The numbers before the layers.
 ghost use Rattle.std.specs.Prelude.{◌≡◌, ◌≤◌, ◌<◌, ℕ, length, slice_index, None, IfOk, IfSome, IsErrOf};
-ghost use Rattle.ann_shelf.specs.Faults.{Rose, NoneFell};
 ghost use Rattle.ann_shelf.specs.Files.{bytes_of};
+ghost use Rattle.ann_shelf.specs.Shown.{OnlyReads};
 ghost use Rattle.graph_files.specs.Grammar.{header_at};
-ghost use Rattle.graph_files.specs.Header.{header_in, is_read, form_fault, limit_fault};
+ghost use Rattle.graph_files.specs.Header.{header_in, is_version, is_read, form_fault, limit_fault};
 ghost use Rattle.graph_files.specs.Reading.{AreBytesIn, Gives, Shows};
-ghost use Rattle.graph_files.specs.WellFormed.{layers_fit, greatest_degree, base_bound};
+ghost use Rattle.graph_rows.specs.WellFormed.{layers_fit, greatest_degree, base_bound};
 
 use crate::window::Window;
-use crate::words::u32_le;
 use crate::{IndexFault, IndexRule};
+use ann_defs::{MAX_DEGREE, MAX_DIM, MAX_POINTS, MAX_WORDS};
 use ann_shelf::{Quantity, Shelf};
-
-const MAX_COUNT: u32 = 4194304;
-
-const MAX_DIM: u32 = 2048;
-
-pub(crate) const MAX_WORDS: u64 = 134217728;
+use bin_files::u32_le;
 
 // The text PANN as a number.
 pub(crate) const MAGIC: u32 = 1313751376;
@@ -32,6 +27,13 @@ pub(crate) struct Header {
     pub(crate) degree: u32,
     pub(crate) start: u32,
     pub(crate) layers: u32,
+}
+
+// Whether files of a version are read.
+fn is_read_version(version: u32) -> bool
+    ensures { result ≡ is_version version }
+{
+    version == 1
 }
 
 // Whether files of a kind are read.
@@ -56,12 +58,12 @@ fn may_have(kind: u32, layers: u32) -> bool
 fn max_degree(kind: u32) -> u32
     ensures { result ≡ greatest_degree kind }
 {
-    if kind == 2 { 64 } else { 128 }
+    if kind == 2 { 64 } else { MAX_DEGREE }
 }
 
 // The greatest length of a row of layer 0.
 pub(crate) fn bound_of(kind: u32, degree: u32) -> u32
-    requires { degree ≤ 128 }
+    requires { degree ≤ MAX_DEGREE }
     ensures { result ≡ base_bound kind degree }
 {
     if kind == 2 { degree + degree } else { degree }
@@ -77,7 +79,7 @@ pub(crate) fn form_of(h: Header) -> Option<IndexFault>
             rule: IndexRule::Magic,
         });
     }
-    if h.version != 1 {
+    if !is_read_version(h.version) {
         return Some(IndexFault::Malformed {
             place: 4,
             rule: IndexRule::Version,
@@ -126,11 +128,11 @@ pub(crate) fn form_of(h: Header) -> Option<IndexFault>
 pub(crate) fn limit_of(h: Header) -> Option<IndexFault>
     ensures { result ≡ limit_fault h }
 {
-    if MAX_COUNT < h.count {
+    if MAX_POINTS < h.count {
         return Some(IndexFault::TooLarge {
             name: Quantity::Count,
             value: u64::from(h.count),
-            limit: u64::from(MAX_COUNT),
+            limit: u64::from(MAX_POINTS),
         });
     }
     if MAX_DIM < h.dim {
@@ -183,15 +185,12 @@ pub(crate) fn read_header<F: Shelf>(
     name: &str,
     window: &mut Window,
 ) -> Result<Header, IndexFault>
-    ensures header { IfSome (F.held shelf.old) (λ files. Gives (λ h. h) result (header_at (bytes_of files name.now))) }
+    ensures header { IfSome (F.shown shelf.old).held (λ files. Gives (λ h. h) result (header_at (bytes_of files name.now))) }
     ensures form { IfOk result (λ h. form_fault h ≡ None) }
     ensures limits { IfOk result (λ h. limit_fault h ≡ None) }
-    ensures bytes { IfOk result (λ _. IfSome (F.held shelf.old) (λ files. AreBytesIn (bytes_of files name.now) 0 32)) }
-    ensures shows { IfSome (F.held shelf.old) (λ files. Shows (bytes_of files name.now) window.new) }
-    ensures cause { IsErrOf result IndexFault.Read → Rose (F.read_faults shelf.old name.now) (F.read_faults shelf.new name.now) }
-    ensures same { F.held shelf.new ≡ F.held shelf.old }
-    ensures reads { NoneFell (F.read_faults shelf.old) (F.read_faults shelf.new) }
-    ensures writes { NoneFell (F.write_faults shelf.old) (F.write_faults shelf.new) }
+    ensures bytes { IfOk result (λ _. IfSome (F.shown shelf.old).held (λ files. AreBytesIn (bytes_of files name.now) 0 32)) }
+    ensures shows { IfSome (F.shown shelf.old).held (λ files. Shows (bytes_of files name.now) window.new) }
+    ensures only_reads { OnlyReads (F.shown shelf.old) (F.shown shelf.new) name.now (IsErrOf result IndexFault.Read) }
 {
     match window.move_to(shelf, name, 0) {
         Ok(()) => {}

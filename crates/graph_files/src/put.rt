@@ -1,10 +1,11 @@
 //! Words that go to a file through a buffer.
-ghost use Rattle.std.specs.Prelude.{◌≡◌, ◌+◌, ◌*◌, ◌≤◌, ◌++◌, [], length, OnOk, OnErr, IsErrOf};
-ghost use Rattle.ann_shelf.specs.Faults.{Rose, NoneFell};
-ghost use Rattle.graph_files.specs.Index.{word, words, row_bytes};
-ghost use Rattle.graph_files.specs.Writing.{pending, Adds, AddsSome};
+ghost use Rattle.std.specs.Prelude.{◌≡◌, ◌+◌, ◌*◌, ◌≤◌, ◌++◌, [], length, OnOk, IsErrOf};
+ghost use Rattle.ann_shelf.specs.Shown.{OnlyWrites};
+ghost use Rattle.graph_rows.specs.Index.{word, words, row_bytes};
+ghost use Rattle.graph_files.specs.Writing.{pending, Adds};
 
 use crate::pieces::Pieces;
+use ann_defs::MAX_DEGREE;
 use ann_shelf::{Shelf, Slip, append_all};
 
 impl Pieces {
@@ -43,17 +44,12 @@ impl Pieces {
 
     /// All that is pending goes to the file.
     pub(crate) fn flush<F: Shelf>(&mut self, shelf: &mut F, name: &str) -> Result<(), Slip>
-        ensures ok { OnOk result (Adds (F.held shelf.old) (F.held shelf.new) name.now (pending self.old) (pending self.new) []) }
+        ensures ok { OnOk result (Adds (F.shown shelf.old).begun (F.shown shelf.new).begun name.now (pending self.old) (pending self.new) []) }
         ensures empty { OnOk result (self.new.len ≡ 0) }
-        ensures err { OnErr result (AddsSome (F.held shelf.old) (F.held shelf.new) name.now (pending self.old) []) }
-        ensures reads { NoneFell (F.read_faults shelf.old) (F.read_faults shelf.new) }
-        ensures writes { NoneFell (F.write_faults shelf.old) (F.write_faults shelf.new) }
-        ensures cause { IsErrOf result Slip.Failed → Rose (F.write_faults shelf.old name.now) (F.write_faults shelf.new name.now) }
+        ensures held { (F.shown shelf.new).held ≡ (F.shown shelf.old).held }
+        ensures only_writes { OnlyWrites (F.shown shelf.old) (F.shown shelf.new) name.now (IsErrOf result Slip.Failed) }
     {
-        match append_all(shelf, name, &self.bytes[..self.len]) {
-            Ok(()) => {}
-            Err(slip) => return Err(slip),
-        }
+        append_all(shelf, name, &self.bytes[..self.len])?;
         self.len = 0;
         Ok(())
     }
@@ -61,12 +57,10 @@ impl Pieces {
     // Makes room for so many bytes.
     fn make_room<F: Shelf>(&mut self, shelf: &mut F, name: &str, size: usize) -> Result<(), Slip>
         requires { size ≤ 16384 }
-        ensures ok { OnOk result (Adds (F.held shelf.old) (F.held shelf.new) name.now (pending self.old) (pending self.new) []) }
+        ensures ok { OnOk result (Adds (F.shown shelf.old).begun (F.shown shelf.new).begun name.now (pending self.old) (pending self.new) []) }
         ensures room { OnOk result (self.new.len + size ≤ 16384) }
-        ensures err { OnErr result (AddsSome (F.held shelf.old) (F.held shelf.new) name.now (pending self.old) []) }
-        ensures reads { NoneFell (F.read_faults shelf.old) (F.read_faults shelf.new) }
-        ensures writes { NoneFell (F.write_faults shelf.old) (F.write_faults shelf.new) }
-        ensures cause { IsErrOf result Slip.Failed → Rose (F.write_faults shelf.old name.now) (F.write_faults shelf.new name.now) }
+        ensures held { (F.shown shelf.new).held ≡ (F.shown shelf.old).held }
+        ensures only_writes { OnlyWrites (F.shown shelf.old) (F.shown shelf.new) name.now (IsErrOf result Slip.Failed) }
     {
         if self.len + size <= 16384 {
             return Ok(());
@@ -76,19 +70,13 @@ impl Pieces {
 
     /// A number goes to the file, or is pending.
     pub(crate) fn put<F: Shelf>(&mut self, shelf: &mut F, name: &str, n: u32) -> Result<(), Slip>
-        ensures ok { OnOk result (Adds (F.held shelf.old) (F.held shelf.new) name.now (pending self.old) (pending self.new) (word n)) }
-        ensures err { OnErr result (AddsSome (F.held shelf.old) (F.held shelf.new) name.now (pending self.old) (word n)) }
-        ensures reads { NoneFell (F.read_faults shelf.old) (F.read_faults shelf.new) }
-        ensures writes { NoneFell (F.write_faults shelf.old) (F.write_faults shelf.new) }
-        ensures cause { IsErrOf result Slip.Failed → Rose (F.write_faults shelf.old name.now) (F.write_faults shelf.new name.now) }
+        ensures ok { OnOk result (Adds (F.shown shelf.old).begun (F.shown shelf.new).begun name.now (pending self.old) (pending self.new) (word n)) }
+        ensures held { (F.shown shelf.new).held ≡ (F.shown shelf.old).held }
+        ensures only_writes { OnlyWrites (F.shown shelf.old) (F.shown shelf.new) name.now (IsErrOf result Slip.Failed) }
     {
-        match self.make_room(shelf, name, 4) {
-            Ok(()) => {
-                self.push(n);
-                Ok(())
-            }
-            Err(slip) => Err(slip),
-        }
+        self.make_room(shelf, name, 4)?;
+        self.push(n);
+        Ok(())
     }
 
     /// A row goes to the file, or is pending, as one block.
@@ -98,20 +86,14 @@ impl Pieces {
         name: &str,
         row: &[u32],
     ) -> Result<(), Slip>
-        requires { length row.now ≤ 128 }
-        ensures ok { OnOk result (Adds (F.held shelf.old) (F.held shelf.new) name.now (pending self.old) (pending self.new) (row_bytes row.now)) }
-        ensures err { OnErr result (AddsSome (F.held shelf.old) (F.held shelf.new) name.now (pending self.old) (row_bytes row.now)) }
-        ensures reads { NoneFell (F.read_faults shelf.old) (F.read_faults shelf.new) }
-        ensures writes { NoneFell (F.write_faults shelf.old) (F.write_faults shelf.new) }
-        ensures cause { IsErrOf result Slip.Failed → Rose (F.write_faults shelf.old name.now) (F.write_faults shelf.new name.now) }
+        requires { length row.now ≤ MAX_DEGREE }
+        ensures ok { OnOk result (Adds (F.shown shelf.old).begun (F.shown shelf.new).begun name.now (pending self.old) (pending self.new) (row_bytes row.now)) }
+        ensures held { (F.shown shelf.new).held ≡ (F.shown shelf.old).held }
+        ensures only_writes { OnlyWrites (F.shown shelf.old) (F.shown shelf.new) name.now (IsErrOf result Slip.Failed) }
     {
-        match self.make_room(shelf, name, 4 + 4 * row.len()) {
-            Ok(()) => {
-                self.push(row.len() as u32);
-                self.push_all(row);
-                Ok(())
-            }
-            Err(slip) => Err(slip),
-        }
+        self.make_room(shelf, name, 4 + 4 * row.len())?;
+        self.push(row.len() as u32);
+        self.push_all(row);
+        Ok(())
     }
 }

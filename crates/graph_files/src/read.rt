@@ -1,21 +1,21 @@
 //! Reading a file of an index.
 ghost use Rattle.std.specs.Prelude.{◌≡◌, ℕ, ◌⊎◌, ◌+◌, ◌<◌, ◌≤◌, ◌^◌, true, length, None, Ok, IfOk, IfErr, IfSome, IsErrOf, not, ◌==◌, drop};
-ghost use Rattle.ann_shelf.specs.Faults.{Rose, NoneFell};
 ghost use Rattle.ann_shelf.specs.Files.{bytes_of};
+ghost use Rattle.ann_shelf.specs.Shown.{OnlyReads};
 ghost use Rattle.graph_files.specs.Grammar.{body_at, index_in};
 ghost use Rattle.graph_files.specs.Header.{form_fault, limit_fault, is_read};
-ghost use Rattle.graph_files.specs.Index.{Contents, text_of};
+ghost use Rattle.graph_rows.specs.Index.{Contents, text_of};
 ghost use Rattle.graph_files.specs.Reading.{AreBytesIn, Gives, Shows};
-ghost use Rattle.graph_files.specs.View.{kind_code, contents};
-ghost use Rattle.graph_files.specs.WellFormed.{IsWellFormed, IsWithinLimits};
+ghost use Rattle.graph_rows.specs.View.{kind_code, contents};
+ghost use Rattle.graph_rows.specs.WellFormed.{IsWellFormed, IsWithinLimits};
 
 use crate::header::{Header, bound_of, read_header};
-use crate::members::Members;
 use crate::read_layers::read_layers;
 use crate::read_rows::read_graph;
 use crate::window::Window;
 use crate::{Index, IndexFault, IndexRule, Kind};
 use ann_shelf::Shelf;
+use graph_rows::Members;
 use std::alloc::Global;
 
 // The kind of a code.
@@ -40,12 +40,9 @@ fn read_end<F: Shelf>(
     at: u64,
 ) -> Result<bool, IndexFault>
     requires place { at + 16384 < 2 ^ 64 }
-    ensures end { IfOk result (λ more. IfSome (F.held shelf.old) (λ files. more ≡ not (length (drop at (bytes_of files name.now)) == 0))) }
+    ensures end { IfOk result (λ more. IfSome (F.shown shelf.old).held (λ files. more ≡ not (length (drop at (bytes_of files name.now)) == 0))) }
     ensures outside { IfErr result (λ e. (e ≡ IndexFault.Read) ⊎ (e ≡ IndexFault.NoMemory)) }
-    ensures cause { IsErrOf result IndexFault.Read → Rose (F.read_faults shelf.old name.now) (F.read_faults shelf.new name.now) }
-    ensures same { F.held shelf.new ≡ F.held shelf.old }
-    ensures reads { NoneFell (F.read_faults shelf.old) (F.read_faults shelf.new) }
-    ensures writes { NoneFell (F.write_faults shelf.old) (F.write_faults shelf.new) }
+    ensures only_reads { OnlyReads (F.shown shelf.old) (F.shown shelf.new) name.now (IsErrOf result IndexFault.Read) }
 {
     match window.move_to(shelf, name, at) {
         Ok(()) => {}
@@ -66,15 +63,12 @@ fn read_body<F: Shelf>(
     requires place { at + 274877906944 < 2 ^ 64 }
     requires form { form_fault h ≡ None }
     requires limits { limit_fault h ≡ None }
-    requires shows { IfSome (F.held shelf.old) (λ files. Shows (bytes_of files name.now) window.old) }
-    ensures body { IfSome (F.held shelf.old) (λ files. Gives contents result (body_at h (bytes_of files name.now) at)) }
+    requires shows { IfSome (F.shown shelf.old).held (λ files. Shows (bytes_of files name.now) window.old) }
+    ensures body { IfSome (F.shown shelf.old).held (λ files. Gives contents result (body_at h (bytes_of files name.now) at)) }
     ensures well_formed { IfOk result (λ i. IsWellFormed (contents i)) }
     ensures limits { IfOk result (λ i. IsWithinLimits (contents i)) }
-    ensures bytes { IfOk result (λ _. IfSome (F.held shelf.old) (λ files. (end : ℕ) × AreBytesIn (bytes_of files name.now) at end × (length (bytes_of files name.now) ≤ end))) }
-    ensures cause { IsErrOf result IndexFault.Read → Rose (F.read_faults shelf.old name.now) (F.read_faults shelf.new name.now) }
-    ensures same { F.held shelf.new ≡ F.held shelf.old }
-    ensures reads { NoneFell (F.read_faults shelf.old) (F.read_faults shelf.new) }
-    ensures writes { NoneFell (F.write_faults shelf.old) (F.write_faults shelf.new) }
+    ensures bytes { IfOk result (λ _. IfSome (F.shown shelf.old).held (λ files. (end : ℕ) × AreBytesIn (bytes_of files name.now) at end × (length (bytes_of files name.now) ≤ end))) }
+    ensures only_reads { OnlyReads (F.shown shelf.old) (F.shown shelf.new) name.now (IsErrOf result IndexFault.Read) }
 {
     let bound = bound_of(h.kind, h.degree);
     let base = match read_graph(
@@ -119,6 +113,7 @@ fn read_body<F: Shelf>(
         start: h.start,
         base: base.0,
         upper: upper.0,
+        stamp: None,
     })
 }
 
@@ -129,19 +124,16 @@ fn read_body<F: Shelf>(
 /// stack, so rows cost no call each. An id that stands twice in a row is found by a scan of the row so far.
 pub fn read_index<F: Shelf>(alloc: Global, shelf: &mut F, name: &str) -> Result<Index, IndexFault>
     // Where the file's bytes are told, the answer is what they hold or their first fault; a failed read or want of memory may stand in its place.
-    ensures index { IfSome (F.held shelf.old) (λ files. Gives contents result (index_in (bytes_of files name.now))) }
+    ensures index { IfSome (F.shown shelf.old).held (λ files. Gives contents result (index_in (bytes_of files name.now))) }
     // An index that is read can be written, searched and built on.
     ensures well_formed { IfOk result (λ i. IsWellFormed (contents i)) }
     ensures limits { IfOk result (λ i. IsWithinLimits (contents i)) }
     // The file is the text of the answer.
-    ensures text { IfOk result (λ i. IfSome (F.held shelf.old) (λ files. bytes_of files name.now ≡ text_of (contents i))) }
+    ensures text { IfOk result (λ i. IfSome (F.shown shelf.old).held (λ files. bytes_of files name.now ≡ text_of (contents i))) }
     // Where the file is the text of a well-formed index within the limits, this index is answered.
-    ensures complete { IfSome (F.held shelf.old) (λ files. (j : Contents) → IsWellFormed j → IsWithinLimits j → is_read j.kind ≡ true → text_of j ≡ bytes_of files name.now → Gives contents result (Ok j)) }
-    // A failed read is answered only where the count rose.
-    ensures cause { IsErrOf result IndexFault.Read → Rose (F.read_faults shelf.old name.now) (F.read_faults shelf.new name.now) }
-    ensures same { F.held shelf.new ≡ F.held shelf.old }
-    ensures reads { NoneFell (F.read_faults shelf.old) (F.read_faults shelf.new) }
-    ensures writes { NoneFell (F.write_faults shelf.old) (F.write_faults shelf.new) }
+    ensures complete { IfSome (F.shown shelf.old).held (λ files. (j : Contents) → IsWellFormed j → IsWithinLimits j → is_read j.kind ≡ true → text_of j ≡ bytes_of files name.now → Gives contents result (Ok j)) }
+    // The file is only read; a failed read is answered only where the count rose.
+    ensures only_reads { OnlyReads (F.shown shelf.old) (F.shown shelf.new) name.now (IsErrOf result IndexFault.Read) }
 {
     let mut window = Window::new();
     let header = match read_header(shelf, name, &mut window) {

@@ -1,21 +1,22 @@
 //! The layers above the first, read one after another.
 ghost use Rattle.std.specs.Prelude.{◌≡◌, ◌+◌, ◌-◌, ◌*◌, ◌<◌, ◌≤◌, ◌^◌, [], length, map, nat_lt, IfOk, IfSome, IsErrOf};
 ghost use Rattle.std.specs.List.{sum_by};
-ghost use Rattle.ann_shelf.specs.Faults.{Rose, NoneFell};
 ghost use Rattle.ann_shelf.specs.Files.{bytes_of};
+ghost use Rattle.ann_shelf.specs.Shown.{OnlyReads};
 ghost use Rattle.graph_files.specs.Grammar.{layer_id_fault, layer_ids_at, layer_at, layers_at, members_fault, start_fault};
-ghost use Rattle.graph_files.specs.Index.{layer_ids, layer_rows};
-ghost use Rattle.graph_files.specs.Layers.{Layered};
-ghost use Rattle.graph_files.specs.Members.{holds, count_in, AreAscending, held_over, count_over};
+ghost use Rattle.graph_rows.specs.Index.{layer_ids, layer_rows};
+ghost use Rattle.graph_rows.specs.Layers.{Layered};
+ghost use Rattle.graph_rows.specs.Members.{holds, count_in, AreAscending, held_over, count_over};
 ghost use Rattle.graph_files.specs.Reading.{AreBytesIn, AreMembers, Gives, Shows};
-ghost use Rattle.graph_files.specs.WellFormed.{AreFurtherLayers, IsFurtherLayer, layer_words};
+ghost use Rattle.graph_rows.specs.WellFormed.{AreFurtherLayers, IsFurtherLayer, layer_words};
 
-use crate::header::{Header, MAX_WORDS};
-use crate::members::{Members, among};
-use crate::read_rows::read_graph;
+use crate::header::Header;
+use crate::read_rows::{among, read_graph};
 use crate::window::Window;
 use crate::{IndexFault, IndexRule, Layer};
+use ann_defs::{MAX_DEGREE, MAX_POINTS, MAX_WORDS};
 use ann_shelf::{Quantity, Shelf};
+use graph_rows::Members;
 use std::alloc::Global;
 
 // The first rule that an id of a layer breaks.
@@ -34,9 +35,9 @@ fn fault_of_id(below: Members, least: u64, place: u64, id: u32) -> Option<IndexF
 
 // The first rule that the count of a layer breaks.
 fn fault_of_count(degree: u32, below: u32, words: u64, place: u64, count: u32) -> Option<IndexFault>
-    requires degree { degree ≤ 128 }
-    requires below { below ≤ 4194304 }
-    requires words { words ≤ 134217728 }
+    requires degree { degree ≤ MAX_DEGREE }
+    requires below { below ≤ MAX_POINTS }
+    requires words { words ≤ MAX_WORDS }
     ensures { result ≡ members_fault degree below words place count }
 {
     if count == 0 {
@@ -86,17 +87,14 @@ fn read_members<F: Shelf>(
     ids: &mut [u32],
 ) -> Result<(), IndexFault>
     requires place { at + 1073741824 < 2 ^ 64 }
-    requires count { length ids.old ≤ 4194304 }
+    requires count { length ids.old ≤ MAX_POINTS }
     requires ascending { AreAscending below }
-    requires shows { IfSome (F.held shelf.old) (λ files. Shows (bytes_of files name.now) window.old) }
-    ensures ids { IfSome (F.held shelf.old) (λ files. Gives (λ _. ids.new) result (layer_ids_at (holds below.entry) (bytes_of files name.now) (length ids.old) at 0 [])) }
+    requires shows { IfSome (F.shown shelf.old).held (λ files. Shows (bytes_of files name.now) window.old) }
+    ensures ids { IfSome (F.shown shelf.old).held (λ files. Gives (λ _. ids.new) result (layer_ids_at (holds below.entry) (bytes_of files name.now) (length ids.old) at 0 [])) }
     ensures sound { IfOk result (λ _. AreMembers (holds below.entry) (length ids.new) ids.new) }
-    ensures bytes { IfOk result (λ _. IfSome (F.held shelf.old) (λ files. AreBytesIn (bytes_of files name.now) at (at + 4 * length ids.old))) }
-    ensures shows { IfSome (F.held shelf.old) (λ files. Shows (bytes_of files name.now) window.new) }
-    ensures cause { IsErrOf result IndexFault.Read → Rose (F.read_faults shelf.old name.now) (F.read_faults shelf.new name.now) }
-    ensures same { F.held shelf.new ≡ F.held shelf.old }
-    ensures reads { NoneFell (F.read_faults shelf.old) (F.read_faults shelf.new) }
-    ensures writes { NoneFell (F.write_faults shelf.old) (F.write_faults shelf.new) }
+    ensures bytes { IfOk result (λ _. IfSome (F.shown shelf.old).held (λ files. AreBytesIn (bytes_of files name.now) at (at + 4 * length ids.old))) }
+    ensures shows { IfSome (F.shown shelf.old).held (λ files. Shows (bytes_of files name.now) window.new) }
+    ensures only_reads { OnlyReads (F.shown shelf.old) (F.shown shelf.new) name.now (IsErrOf result IndexFault.Read) }
 {
     let mut least = 0u64;
     for i in 0..ids.len() {
@@ -126,18 +124,15 @@ fn read_listed<F: Shelf>(
     count: u32,
 ) -> Result<Vec<u32>, IndexFault>
     requires place { at + 1073741824 < 2 ^ 64 }
-    requires count { count ≤ 4194304 }
+    requires count { count ≤ MAX_POINTS }
     requires ascending { AreAscending below }
-    requires shows { IfSome (F.held shelf.old) (λ files. Shows (bytes_of files name.now) window.old) }
-    ensures ids { IfSome (F.held shelf.old) (λ files. Gives (λ v. v.items) result (layer_ids_at (holds below.entry) (bytes_of files name.now) count at 0 [])) }
+    requires shows { IfSome (F.shown shelf.old).held (λ files. Shows (bytes_of files name.now) window.old) }
+    ensures ids { IfSome (F.shown shelf.old).held (λ files. Gives (λ v. v.items) result (layer_ids_at (holds below.entry) (bytes_of files name.now) count at 0 [])) }
     ensures sound { IfOk result (λ v. AreMembers (holds below.entry) (length v.items) v.items) }
     ensures count { IfOk result (λ v. length v.items ≡ count) }
-    ensures bytes { IfOk result (λ _. IfSome (F.held shelf.old) (λ files. AreBytesIn (bytes_of files name.now) at (at + 4 * count))) }
-    ensures shows { IfSome (F.held shelf.old) (λ files. Shows (bytes_of files name.now) window.new) }
-    ensures cause { IsErrOf result IndexFault.Read → Rose (F.read_faults shelf.old name.now) (F.read_faults shelf.new name.now) }
-    ensures same { F.held shelf.new ≡ F.held shelf.old }
-    ensures reads { NoneFell (F.read_faults shelf.old) (F.read_faults shelf.new) }
-    ensures writes { NoneFell (F.write_faults shelf.old) (F.write_faults shelf.new) }
+    ensures bytes { IfOk result (λ _. IfSome (F.shown shelf.old).held (λ files. AreBytesIn (bytes_of files name.now) at (at + 4 * count))) }
+    ensures shows { IfSome (F.shown shelf.old).held (λ files. Shows (bytes_of files name.now) window.new) }
+    ensures only_reads { OnlyReads (F.shown shelf.old) (F.shown shelf.new) name.now (IsErrOf result IndexFault.Read) }
 {
     let Ok(mut ids) = vec![in alloc; 0u32; count as usize] else {
         return Err(IndexFault::NoMemory);
@@ -161,22 +156,19 @@ pub(crate) fn read_layer<F: Shelf>(
     at: u64,
 ) -> Result<(Layer, u64), IndexFault>
     requires place { at + 8589934592 < 2 ^ 64 }
-    requires degree { (1 ≤ degree) × (degree ≤ 128) }
-    requires count { count_in below ≤ 4194304 }
-    requires words { words ≤ 134217728 }
+    requires degree { (1 ≤ degree) × (degree ≤ MAX_DEGREE) }
+    requires count { count_in below ≤ MAX_POINTS }
+    requires words { words ≤ MAX_WORDS }
     requires ascending { AreAscending below }
-    requires shows { IfSome (F.held shelf.old) (λ files. Shows (bytes_of files name.now) window.old) }
-    ensures layer { IfSome (F.held shelf.old) (λ files. Gives (λ x. (layer_ids x.0.entries, layer_rows x.0.entries, x.1)) result (layer_at start degree (holds below.entry) (count_in below.entry) words (bytes_of files name.now) at)) }
+    requires shows { IfSome (F.shown shelf.old).held (λ files. Shows (bytes_of files name.now) window.old) }
+    ensures layer { IfSome (F.shown shelf.old).held (λ files. Gives (λ x. (layer_ids x.0.entries, layer_rows x.0.entries, x.1)) result (layer_at start degree (holds below.entry) (count_in below.entry) words (bytes_of files name.now) at)) }
     ensures sound { IfOk result (λ x. IsFurtherLayer start degree (holds below.entry) x.0.entries) }
-    ensures count { IfOk result (λ x. length x.0.entries ≤ 4194304) }
-    ensures words { IfOk result (λ x. words + layer_words (length x.0.entries) degree ≤ 134217728) }
-    ensures bytes { IfOk result (λ x. IfSome (F.held shelf.old) (λ files. AreBytesIn (bytes_of files name.now) at x.1)) }
+    ensures count { IfOk result (λ x. length x.0.entries ≤ MAX_POINTS) }
+    ensures words { IfOk result (λ x. words + layer_words (length x.0.entries) degree ≤ MAX_WORDS) }
+    ensures bytes { IfOk result (λ x. IfSome (F.shown shelf.old).held (λ files. AreBytesIn (bytes_of files name.now) at x.1)) }
     ensures end { IfOk result (λ x. x.1 ≤ at + 4294967296) }
-    ensures shows { IfSome (F.held shelf.old) (λ files. Shows (bytes_of files name.now) window.new) }
-    ensures cause { IsErrOf result IndexFault.Read → Rose (F.read_faults shelf.old name.now) (F.read_faults shelf.new name.now) }
-    ensures same { F.held shelf.new ≡ F.held shelf.old }
-    ensures reads { NoneFell (F.read_faults shelf.old) (F.read_faults shelf.new) }
-    ensures writes { NoneFell (F.write_faults shelf.old) (F.write_faults shelf.new) }
+    ensures shows { IfSome (F.shown shelf.old).held (λ files. Shows (bytes_of files name.now) window.new) }
+    ensures only_reads { OnlyReads (F.shown shelf.old) (F.shown shelf.new) name.now (IsErrOf result IndexFault.Read) }
 {
     let count = match window.word(shelf, name, at) {
         Ok(count) => count,
@@ -231,22 +223,19 @@ pub(crate) fn read_layers<F: Shelf>(
     at: u64,
 ) -> Result<(Vec<Layer>, u64), IndexFault>
     requires place { at + 137438953472 < 2 ^ 64 }
-    requires count { h.count ≤ 4194304 }
-    requires degree { (1 ≤ h.degree) × (h.degree ≤ 128) }
+    requires count { h.count ≤ MAX_POINTS }
+    requires degree { (1 ≤ h.degree) × (h.degree ≤ MAX_DEGREE) }
     requires layers { (1 ≤ h.layers) × (h.layers ≤ 16) }
-    requires words { words ≤ 134217728 }
-    requires shows { IfSome (F.held shelf.old) (λ files. Shows (bytes_of files name.now) window.old) }
-    ensures layers { IfSome (F.held shelf.old) (λ files. Gives (λ x. (map (λ (l : Layered). l.entries) x.0.items, x.1)) result (layers_at h.start h.degree (λ id. nat_lt id h.count) h.count words (bytes_of files name.now) (h.layers - 1) at [])) }
+    requires words { words ≤ MAX_WORDS }
+    requires shows { IfSome (F.shown shelf.old).held (λ files. Shows (bytes_of files name.now) window.old) }
+    ensures layers { IfSome (F.shown shelf.old).held (λ files. Gives (λ x. (map (λ (l : Layered). l.entries) x.0.items, x.1)) result (layers_at h.start h.degree (λ id. nat_lt id h.count) h.count words (bytes_of files name.now) (h.layers - 1) at [])) }
     ensures sound { IfOk result (λ x. AreFurtherLayers h.start h.degree (λ id. nat_lt id h.count) (map (λ (l : Layered). l.entries) x.0.items)) }
     ensures count { IfOk result (λ x. length x.0.items + 1 ≡ h.layers) }
-    ensures words { IfOk result (λ x. words + sum_by (λ layer. layer_words (length layer) h.degree) (map (λ (l : Layered). l.entries) x.0.items) ≤ 134217728) }
-    ensures bytes { IfOk result (λ x. IfSome (F.held shelf.old) (λ files. AreBytesIn (bytes_of files name.now) at x.1)) }
+    ensures words { IfOk result (λ x. words + sum_by (λ layer. layer_words (length layer) h.degree) (map (λ (l : Layered). l.entries) x.0.items) ≤ MAX_WORDS) }
+    ensures bytes { IfOk result (λ x. IfSome (F.shown shelf.old).held (λ files. AreBytesIn (bytes_of files name.now) at x.1)) }
     ensures end { IfOk result (λ x. x.1 ≤ at + 68719476736) }
-    ensures shows { IfSome (F.held shelf.old) (λ files. Shows (bytes_of files name.now) window.new) }
-    ensures cause { IsErrOf result IndexFault.Read → Rose (F.read_faults shelf.old name.now) (F.read_faults shelf.new name.now) }
-    ensures same { F.held shelf.new ≡ F.held shelf.old }
-    ensures reads { NoneFell (F.read_faults shelf.old) (F.read_faults shelf.new) }
-    ensures writes { NoneFell (F.write_faults shelf.old) (F.write_faults shelf.new) }
+    ensures shows { IfSome (F.shown shelf.old).held (λ files. Shows (bytes_of files name.now) window.new) }
+    ensures only_reads { OnlyReads (F.shown shelf.old) (F.shown shelf.new) name.now (IsErrOf result IndexFault.Read) }
 {
     let mut layers: Vec<Layer> = Vec::new(alloc);
     let mut place = at;

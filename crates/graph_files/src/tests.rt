@@ -1,7 +1,7 @@
 //! Small indexes, and the bytes that their files must have.
 ghost use Rattle.std.specs.Prelude.{◌≡◌, ◌∷◌, [], IfOk};
-ghost use Rattle.graph_files.specs.View.{contents};
-ghost use Rattle.graph_files.specs.WellFormed.{IsWellFormed};
+ghost use Rattle.graph_rows.specs.View.{contents};
+ghost use Rattle.graph_rows.specs.WellFormed.{IsWellFormed};
 
 use super::*;
 use ann_shelf::{MemShelf, NoMemory, Slip};
@@ -54,6 +54,7 @@ fn four_points(alloc: Global) -> Result<Index, NoMemory>
         start: 0,
         base,
         upper: Vec::new(alloc),
+        stamp: None,
     })
 }
 
@@ -75,6 +76,7 @@ fn two_layers(alloc: Global) -> Result<Index, NoMemory>
         start: 1,
         base,
         upper,
+        stamp: None,
     })
 }
 

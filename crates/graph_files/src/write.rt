@@ -1,13 +1,12 @@
 //! Writing a file of an index.
 ghost use Rattle.std.specs.Prelude.{◌≡◌, ◌≤◌, ◌<◌, [], Some, flat_map, vec_len, IfSome, OnOk, OnErr, IsErrOf};
-ghost use Rattle.ann_shelf.specs.Faults.{Rose, NoneFell};
-ghost use Rattle.ann_shelf.specs.Files.{Files, with_file, EmptiedOrSame};
-ghost use Rattle.bin_files.specs.Write.{WroteSome};
-ghost use Rattle.graph_files.specs.Index.{words, rows_bytes, layer_bytes, layers_bytes, header_words, text_of};
-ghost use Rattle.graph_files.specs.Layers.{Layered};
-ghost use Rattle.graph_files.specs.View.{kind_code, contents};
-ghost use Rattle.graph_files.specs.WellFormed.{IsWellFormed};
-ghost use Rattle.graph_files.specs.Writing.{pending, Adds, AddsSome};
+ghost use Rattle.ann_shelf.specs.Files.{with_file, Grows};
+ghost use Rattle.ann_shelf.specs.Shown.{OnlyWrites};
+ghost use Rattle.graph_rows.specs.Index.{words, rows_bytes, layer_bytes, layers_bytes, header_words, text_of};
+ghost use Rattle.graph_rows.specs.Layers.{Layered};
+ghost use Rattle.graph_rows.specs.View.{kind_code, contents};
+ghost use Rattle.graph_rows.specs.WellFormed.{IsWellFormed};
+ghost use Rattle.graph_files.specs.Writing.{pending, Adds};
 
 use crate::header::MAGIC;
 use crate::pieces::Pieces;
@@ -50,17 +49,12 @@ fn write_words<F: Shelf>(
     name: &str,
     ns: &[u32],
 ) -> Result<(), Slip>
-    ensures ok { OnOk result (Adds (F.held shelf.old) (F.held shelf.new) name.now (pending pieces.old) (pending pieces.new) (words ns.now)) }
-    ensures err { OnErr result (AddsSome (F.held shelf.old) (F.held shelf.new) name.now (pending pieces.old) (words ns.now)) }
-    ensures reads { NoneFell (F.read_faults shelf.old) (F.read_faults shelf.new) }
-    ensures writes { NoneFell (F.write_faults shelf.old) (F.write_faults shelf.new) }
-    ensures cause { IsErrOf result Slip.Failed → Rose (F.write_faults shelf.old name.now) (F.write_faults shelf.new name.now) }
+    ensures ok { OnOk result (Adds (F.shown shelf.old).begun (F.shown shelf.new).begun name.now (pending pieces.old) (pending pieces.new) (words ns.now)) }
+    ensures held { (F.shown shelf.new).held ≡ (F.shown shelf.old).held }
+    ensures only_writes { OnlyWrites (F.shown shelf.old) (F.shown shelf.new) name.now (IsErrOf result Slip.Failed) }
 {
     for n in ns {
-        match pieces.put(shelf, name, *n) {
-            Ok(()) => {}
-            Err(slip) => return Err(slip),
-        }
+        pieces.put(shelf, name, *n)?;
     }
     Ok(())
 }
@@ -72,17 +66,12 @@ fn write_rows<F: Shelf>(
     name: &str,
     graph: &FlatGraph,
 ) -> Result<(), Slip>
-    ensures ok { OnOk result (Adds (F.held shelf.old) (F.held shelf.new) name.now (pending pieces.old) (pending pieces.new) (rows_bytes graph.now.rows)) }
-    ensures err { OnErr result (AddsSome (F.held shelf.old) (F.held shelf.new) name.now (pending pieces.old) (rows_bytes graph.now.rows)) }
-    ensures reads { NoneFell (F.read_faults shelf.old) (F.read_faults shelf.new) }
-    ensures writes { NoneFell (F.write_faults shelf.old) (F.write_faults shelf.new) }
-    ensures cause { IsErrOf result Slip.Failed → Rose (F.write_faults shelf.old name.now) (F.write_faults shelf.new name.now) }
+    ensures ok { OnOk result (Adds (F.shown shelf.old).begun (F.shown shelf.new).begun name.now (pending pieces.old) (pending pieces.new) (rows_bytes graph.now.rows)) }
+    ensures held { (F.shown shelf.new).held ≡ (F.shown shelf.old).held }
+    ensures only_writes { OnlyWrites (F.shown shelf.old) (F.shown shelf.new) name.now (IsErrOf result Slip.Failed) }
 {
     for i in 0..graph.count() {
-        match pieces.put_row(shelf, name, graph.at(i)) {
-            Ok(()) => {}
-            Err(slip) => return Err(slip),
-        }
+        pieces.put_row(shelf, name, graph.at(i))?;
     }
     Ok(())
 }
@@ -94,24 +83,13 @@ fn write_layer<F: Shelf>(
     name: &str,
     layer: &Layer,
 ) -> Result<(), Slip>
-    ensures ok { OnOk result (Adds (F.held shelf.old) (F.held shelf.new) name.now (pending pieces.old) (pending pieces.new) (layer_bytes layer.now.entries)) }
-    ensures err { OnErr result (AddsSome (F.held shelf.old) (F.held shelf.new) name.now (pending pieces.old) (layer_bytes layer.now.entries)) }
-    ensures reads { NoneFell (F.read_faults shelf.old) (F.read_faults shelf.new) }
-    ensures writes { NoneFell (F.write_faults shelf.old) (F.write_faults shelf.new) }
-    ensures cause { IsErrOf result Slip.Failed → Rose (F.write_faults shelf.old name.now) (F.write_faults shelf.new name.now) }
+    ensures ok { OnOk result (Adds (F.shown shelf.old).begun (F.shown shelf.new).begun name.now (pending pieces.old) (pending pieces.new) (layer_bytes layer.now.entries)) }
+    ensures held { (F.shown shelf.new).held ≡ (F.shown shelf.old).held }
+    ensures only_writes { OnlyWrites (F.shown shelf.old) (F.shown shelf.new) name.now (IsErrOf result Slip.Failed) }
 {
-    match pieces.put(shelf, name, layer.ids().len() as u32) {
-        Ok(()) => {}
-        Err(slip) => return Err(slip),
-    }
-    match write_words(pieces, shelf, name, layer.ids()) {
-        Ok(()) => {}
-        Err(slip) => return Err(slip),
-    }
-    match write_rows(pieces, shelf, name, layer.graph()) {
-        Ok(()) => Ok(()),
-        Err(slip) => Err(slip),
-    }
+    pieces.put(shelf, name, layer.ids().len() as u32)?;
+    write_words(pieces, shelf, name, layer.ids())?;
+    write_rows(pieces, shelf, name, layer.graph())
 }
 
 // The further layers one after another.
@@ -121,17 +99,12 @@ fn write_layers<F: Shelf>(
     name: &str,
     layers: &[Layer],
 ) -> Result<(), Slip>
-    ensures ok { OnOk result (Adds (F.held shelf.old) (F.held shelf.new) name.now (pending pieces.old) (pending pieces.new) (flat_map (λ (l : Layered). layer_bytes l.entries) layers.now)) }
-    ensures err { OnErr result (AddsSome (F.held shelf.old) (F.held shelf.new) name.now (pending pieces.old) (flat_map (λ (l : Layered). layer_bytes l.entries) layers.now)) }
-    ensures reads { NoneFell (F.read_faults shelf.old) (F.read_faults shelf.new) }
-    ensures writes { NoneFell (F.write_faults shelf.old) (F.write_faults shelf.new) }
-    ensures cause { IsErrOf result Slip.Failed → Rose (F.write_faults shelf.old name.now) (F.write_faults shelf.new name.now) }
+    ensures ok { OnOk result (Adds (F.shown shelf.old).begun (F.shown shelf.new).begun name.now (pending pieces.old) (pending pieces.new) (flat_map (λ (l : Layered). layer_bytes l.entries) layers.now)) }
+    ensures held { (F.shown shelf.new).held ≡ (F.shown shelf.old).held }
+    ensures only_writes { OnlyWrites (F.shown shelf.old) (F.shown shelf.new) name.now (IsErrOf result Slip.Failed) }
 {
     for layer in layers {
-        match write_layer(pieces, shelf, name, layer) {
-            Ok(()) => {}
-            Err(slip) => return Err(slip),
-        }
+        write_layer(pieces, shelf, name, layer)?;
     }
     Ok(())
 }
@@ -143,58 +116,38 @@ fn write_body<F: Shelf>(
     name: &str,
     index: &Index,
 ) -> Result<(), Slip>
-    ensures ok { OnOk result (Adds (F.held shelf.old) (F.held shelf.new) name.now (pending pieces.old) (pending pieces.new) (layers_bytes (contents index.now).layers)) }
-    ensures err { OnErr result (AddsSome (F.held shelf.old) (F.held shelf.new) name.now (pending pieces.old) (layers_bytes (contents index.now).layers)) }
-    ensures reads { NoneFell (F.read_faults shelf.old) (F.read_faults shelf.new) }
-    ensures writes { NoneFell (F.write_faults shelf.old) (F.write_faults shelf.new) }
-    ensures cause { IsErrOf result Slip.Failed → Rose (F.write_faults shelf.old name.now) (F.write_faults shelf.new name.now) }
+    ensures ok { OnOk result (Adds (F.shown shelf.old).begun (F.shown shelf.new).begun name.now (pending pieces.old) (pending pieces.new) (layers_bytes (contents index.now).layers)) }
+    ensures held { (F.shown shelf.new).held ≡ (F.shown shelf.old).held }
+    ensures only_writes { OnlyWrites (F.shown shelf.old) (F.shown shelf.new) name.now (IsErrOf result Slip.Failed) }
 {
-    match write_rows(pieces, shelf, name, &index.base) {
-        Ok(()) => {}
-        Err(slip) => return Err(slip),
-    }
-    match write_layers(pieces, shelf, name, &index.upper) {
-        Ok(()) => Ok(()),
-        Err(slip) => Err(slip),
-    }
+    write_rows(pieces, shelf, name, &index.base)?;
+    write_layers(pieces, shelf, name, &index.upper)
 }
 
-// Creates the file, or empties it.
-fn begin_file<F: Shelf>(shelf: &mut F, name: &str) -> Result<(), Slip>
-    ensures ok { OnOk result (IfSome (F.held shelf.old) (λ files. F.held shelf.new ≡ Some (with_file files name.now []))) }
-    ensures failed { IsErrOf result Slip.Failed → IfSome (F.held shelf.old) (λ files. (after : Files) × (F.held shelf.new ≡ Some after) × EmptiedOrSame files after name.now) }
-    ensures no_memory { IsErrOf result Slip.NoMemory → F.held shelf.new ≡ F.held shelf.old }
-    ensures reads { NoneFell (F.read_faults shelf.old) (F.read_faults shelf.new) }
-    ensures writes { NoneFell (F.write_faults shelf.old) (F.write_faults shelf.new) }
-    ensures cause { IsErrOf result Slip.Failed → Rose (F.write_faults shelf.old name.now) (F.write_faults shelf.new name.now) }
-{
-    shelf.begin(name)
-}
-
-/// Writes the file of an index: creates it or empties it, then appends the index's one text.
-///
-/// It takes no memory of its own but a buffer of 16 KiB on the stack; `NoMemory` can only come from the shelf. After a
-/// refusal the file is as it was or holds a prefix of the text, and every other file is as it was.
-pub fn write_index<F: Shelf>(shelf: &mut F, name: &str, index: &Index) -> Result<(), Slip>
+// The whole text of an index, after what is begun.
+fn write_text<F: Shelf>(shelf: &mut F, name: &str, index: &Index) -> Result<(), Slip>
     requires { IsWellFormed (contents index.now) }
-    ensures ok { OnOk result (IfSome (F.held shelf.old) (λ files. F.held shelf.new ≡ Some (with_file files name.now (text_of (contents index.now))))) }
-    ensures err { OnErr result (IfSome (F.held shelf.old) (λ files. (after : Files) × (F.held shelf.new ≡ Some after) × WroteSome files after name.now (text_of (contents index.now)))) }
-    ensures reads { NoneFell (F.read_faults shelf.old) (F.read_faults shelf.new) }
-    ensures writes { NoneFell (F.write_faults shelf.old) (F.write_faults shelf.new) }
-    ensures cause { IsErrOf result Slip.Failed → Rose (F.write_faults shelf.old name.now) (F.write_faults shelf.new name.now) }
+    ensures ok { OnOk result (Grows (F.shown shelf.old).begun (F.shown shelf.new).begun name.now (text_of (contents index.now))) }
+    ensures held { (F.shown shelf.new).held ≡ (F.shown shelf.old).held }
+    ensures only_writes { OnlyWrites (F.shown shelf.old) (F.shown shelf.new) name.now (IsErrOf result Slip.Failed) }
 {
     let mut pieces = Pieces::new();
     pieces.push_all(&header_of(index));
-    match begin_file(shelf, name) {
-        Ok(()) => {}
-        Err(slip) => return Err(slip),
-    }
-    match write_body(&mut pieces, shelf, name, index) {
-        Ok(()) => {}
-        Err(slip) => return Err(slip),
-    }
-    match pieces.flush(shelf, name) {
-        Ok(()) => Ok(()),
-        Err(slip) => Err(slip),
-    }
+    write_body(&mut pieces, shelf, name, index)?;
+    pieces.flush(shelf, name)
+}
+
+/// Writes the file of an index: begins it, appends the index's one text, and finishes it.
+///
+/// It takes no memory of its own but a buffer of 16 KiB on the stack; `NoMemory` can only come from the shelf. After a
+/// refusal every file is as it was.
+pub fn write_index<F: Shelf>(shelf: &mut F, name: &str, index: &Index) -> Result<(), Slip>
+    requires { IsWellFormed (contents index.now) }
+    ensures ok { OnOk result (IfSome (F.shown shelf.old).held (λ files. (F.shown shelf.new).held ≡ Some (with_file files name.now (text_of (contents index.now))))) }
+    ensures err { OnErr result ((F.shown shelf.new).held ≡ (F.shown shelf.old).held) }
+    ensures only_writes { OnlyWrites (F.shown shelf.old) (F.shown shelf.new) name.now (IsErrOf result Slip.Failed) }
+{
+    shelf.begin(name)?;
+    write_text(shelf, name, index)?;
+    shelf.finish(name)
 }

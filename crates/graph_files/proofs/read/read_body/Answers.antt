@@ -1,16 +1,16 @@
-use Rattle.std.proofs.Common.{◌≡◌, ℕ, List, ◌+◌, ◌-◌, ◌∷◌, ◌∙◌, [], ◌≤◌, length, map, sym, ap, subst, Ok, nat_lt}
+use Rattle.std.proofs.Common.{◌≡◌, ℕ, List, ◌+◌, ◌-◌, ◌∷◌, ◌∙◌, [], ◌≤◌, length, map, sym, ap, subst, Ok, None, nat_lt}
 use Rattle.std.specs.List.{range_with_len, enumerate_from, sum_by}
 use Rattle.std.proofs.lemmas.List.{length-map}
-use Rattle.graph_files.specs.Index.{Contents}
+use Rattle.graph_rows.specs.Index.{Contents}
 use Rattle.ann_shelf.specs.Files.{bytes_of}
 use Rattle.bin_files.proofs.Pieces.{told_then, both_told}
 use Rattle.graph_files.specs.declared.fault.IndexFault.TheVariants.{Malformed}
 use Rattle.graph_files.specs.declared.fault.IndexRule.TheVariants.{Trailing}
 use Rattle.graph_files.specs.Grammar.{rows_at, layers_at}
 use Rattle.graph_files.specs.Reading.{Fails}
-use Rattle.graph_files.specs.WellFormed.{layer_words}
-use Rattle.graph_files.proofs.Totals.{entries_of}
-use Rattle.graph_files.specs.View.{kind_code}
+use Rattle.graph_rows.specs.WellFormed.{layer_words}
+use Rattle.graph_rows.proofs.Totals.{entries_of}
+use Rattle.graph_rows.specs.View.{kind_code}
 use Rattle.graph_files.proofs.BodyFacts.{body_formed, body_limits}
 use Rattle.graph_files.proofs.ReadLaws.{bytes_to_end}
 use Rattle.graph_files.proofs.UpperLoop.{Entries}
@@ -19,20 +19,20 @@ use Rattle.graph_files.proofs.BodyLaws.{body_base, body_upper, body_end, body_is
 use Rattle.graph_files.proofs.read.read_body.Goals as goal
 
 pub returns-in-Err-clause-body : goal.returns-in-Err-clause-body
-returns-in-Err-clause-body g c = told_then (g.F.Shelf.held c.args.shelf.now) c.in-Err.ensures.rows (λ files broken.
+returns-in-Err-clause-body g c = told_then (g.F.Shelf.shown c.args.shelf.now).held c.in-Err.ensures.rows (λ files broken.
     let h = c.args.h in
     let Broken : ℕ → Type 0 = λ b. Fails c.in-Err.fault (rows_at (λ id. nat_lt id h.count) b (bytes_of files c.args.name.now) (range_with_len 0 h.count) c.args.at []) in
     body_base h (bytes_of files c.args.name.now) c.args.at c.in-Err.fault (subst Broken c.bound_of-bound.ensures broken))
 
 pub returns-in-Err-read_layers-clause-body : goal.returns-in-Err-read_layers-clause-body
-returns-in-Err-read_layers-clause-body g c = both_told (g.F.Shelf.held c.args.shelf.now) (g.F.Shelf.held c.read_graph.new.shelf) c.in-Ok.ensures.same c.in-Ok.ensures.rows c.in-Err-read_layers.ensures.layers (λ files rows broken.
+returns-in-Err-read_layers-clause-body g c = both_told (g.F.Shelf.shown c.args.shelf.now).held (g.F.Shelf.shown c.read_graph.new.shelf).held c.in-Ok.ensures.only_reads.held c.in-Ok.ensures.rows c.in-Err-read_layers.ensures.layers (λ files rows broken.
     let h = c.args.h in
     let Rows : ℕ → Type 0 = λ b. rows_at (λ id. nat_lt id h.count) b (bytes_of files c.args.name.now) (range_with_len 0 h.count) c.args.at [] ≡ Ok (c.in-Ok.base.0.rows, c.in-Ok.base.1) in
     let Broken : ℕ → Type 0 = λ b. Fails c.in-Err-read_layers.fault (layers_at h.start h.degree (λ id. nat_lt id h.count) h.count (layer_words h.count b) (bytes_of files c.args.name.now) (h.layers - 1) c.in-Ok.base.1 []) in
     body_upper h (bytes_of files c.args.name.now) c.args.at c.in-Err-read_layers.fault (c.in-Ok.base.0.rows, c.in-Ok.base.1) (subst Rows c.bound_of-bound.ensures rows) (subst Broken c.bound_of-bound.ensures broken))
 
 pub returns-then-more-clause-body : goal.returns-then-more-clause-body
-returns-then-more-clause-body g c = three_told (g.F.Shelf.held c.args.shelf.now) (g.F.Shelf.held c.read_graph.new.shelf) (g.F.Shelf.held c.read_layers.new.shelf) c.in-Ok.ensures.same c.in-Ok-read_layers.ensures.same
+returns-then-more-clause-body g c = three_told (g.F.Shelf.shown c.args.shelf.now).held (g.F.Shelf.shown c.read_graph.new.shelf).held (g.F.Shelf.shown c.read_layers.new.shelf).held c.in-Ok.ensures.only_reads.held c.in-Ok-read_layers.ensures.only_reads.held
     c.in-Ok.ensures.rows c.in-Ok-read_layers.ensures.layers c.in-Ok-read_end.ensures.end (λ files rows layers end.
     let h = c.args.h in
     let Rows : ℕ → Type 0 = λ b. rows_at (λ id. nat_lt id h.count) b (bytes_of files c.args.name.now) (range_with_len 0 h.count) c.args.at [] ≡ Ok (c.in-Ok.base.0.rows, c.in-Ok.base.1) in
@@ -41,12 +41,12 @@ returns-then-more-clause-body g c = three_told (g.F.Shelf.held c.args.shelf.now)
     (subst Rows c.bound_of-bound.ensures rows) (subst Layers c.bound_of-bound.ensures layers) (something (bytes_of files c.args.name.now) c.in-Ok-read_layers.upper.1 c.in-Ok-read_end.more end c.if-more.true))
 
 pub returns-clause-body : goal.returns-clause-body
-returns-clause-body g c = three_told (g.F.Shelf.held c.args.shelf.now) (g.F.Shelf.held c.read_graph.new.shelf) (g.F.Shelf.held c.read_layers.new.shelf) c.in-Ok.ensures.same c.in-Ok-read_layers.ensures.same
+returns-clause-body g c = three_told (g.F.Shelf.shown c.args.shelf.now).held (g.F.Shelf.shown c.read_graph.new.shelf).held (g.F.Shelf.shown c.read_layers.new.shelf).held c.in-Ok.ensures.only_reads.held c.in-Ok-read_layers.ensures.only_reads.held
     c.in-Ok.ensures.rows c.in-Ok-read_layers.ensures.layers c.in-Ok-read_end.ensures.end (λ files rows layers end.
     let h = c.args.h in
     let Rows : ℕ → Type 0 = λ b. rows_at (λ id. nat_lt id h.count) b (bytes_of files c.args.name.now) (range_with_len 0 h.count) c.args.at [] ≡ Ok (c.in-Ok.base.0.rows, c.in-Ok.base.1) in
     let Layers : ℕ → Type 0 = λ b. layers_at h.start h.degree (λ id. nat_lt id h.count) h.count (layer_words h.count b) (bytes_of files c.args.name.now) (h.layers - 1) c.in-Ok.base.1 [] ≡ Ok (map entries_of c.in-Ok-read_layers.upper.0.items, c.in-Ok-read_layers.upper.1) in
-    let At : ℕ → Contents = λ k. record { kind = k; count = h.count; dim = h.dim; degree = h.degree; start = h.start; layers = enumerate_from 0 c.in-Ok.base.0.rows ∷ map entries_of c.in-Ok-read_layers.upper.0.items } in
+    let At : ℕ → Contents = λ k. record { kind = k; count = h.count; dim = h.dim; degree = h.degree; start = h.start; layers = enumerate_from 0 c.in-Ok.base.0.rows ∷ map entries_of c.in-Ok-read_layers.upper.0.items; stamp = None } in
     body_is h (bytes_of files c.args.name.now) c.args.at (c.in-Ok.base.0.rows, c.in-Ok.base.1) (map entries_of c.in-Ok-read_layers.upper.0.items, c.in-Ok-read_layers.upper.1)
     (subst Rows c.bound_of-bound.ensures rows) (subst Layers c.bound_of-bound.ensures layers) (nothing (bytes_of files c.args.name.now) c.in-Ok-read_layers.upper.1 c.in-Ok-read_end.more end c.if-more.false)
     ∙ ap (λ k. Ok (At k)) (sym c.kind_of.ensures))
@@ -64,6 +64,6 @@ returns-clause-limits g c =
     body_limits c.args.h (kind_code c.kind_of.result) c.in-Ok.base.0.rows upper c.requires.form c.requires.limits c.kind_of.ensures (subst Fits c.bound_of-bound.ensures c.in-Ok-read_layers.ensures.words)
 
 pub returns-clause-bytes : goal.returns-clause-bytes
-returns-clause-bytes g c = three_told (g.F.Shelf.held c.args.shelf.now) (g.F.Shelf.held c.read_graph.new.shelf) (g.F.Shelf.held c.read_layers.new.shelf) c.in-Ok.ensures.same c.in-Ok-read_layers.ensures.same
+returns-clause-bytes g c = three_told (g.F.Shelf.shown c.args.shelf.now).held (g.F.Shelf.shown c.read_graph.new.shelf).held (g.F.Shelf.shown c.read_layers.new.shelf).held c.in-Ok.ensures.only_reads.held c.in-Ok-read_layers.ensures.only_reads.held
     c.in-Ok.ensures.bytes c.in-Ok-read_layers.ensures.bytes c.in-Ok-read_end.ensures.end (λ files first second end.
     bytes_to_end (bytes_of files c.args.name.now) c.args.at c.in-Ok.base.1 c.in-Ok-read_layers.upper.1 c.in-Ok-read_end.more first second end c.if-more.false)

@@ -1,19 +1,20 @@
-use Rattle.std.proofs.Common.{◌≡◌, ℕ, ◌+◌, ◌-◌, ◌*◌, ◌≤◌, ◌++◌, ◌∷◌, [], Bool, List, map, length, nat_lt, refl, sym, ap, subst, ◌∙◌, arith, Ok, IfSome, length-append}
+use Rattle.std.proofs.Common.{◌≡◌, ℕ, ◌+◌, ◌-◌, ◌*◌, ◌≤◌, ◌++◌, ◌∷◌, [], Bool, List, map, length, nat_lt, sym, ap, subst, ◌∙◌, arith, Ok, IfSome, length-append}
 use Rattle.std.specs.List.{sum_by}
 use Rattle.std.proofs.lemmas.List.{length-map}
 use Rattle.std.proofs.lemmas.List.Sums.{sum_by_push}
 use Rattle.ann_shelf.specs.Files.{bytes_of}
+use Rattle.ann_shelf.proofs.Only.{only_reads_same, only_reads_then}
 use Rattle.bin_files.proofs.Pieces.{told_then, both_told}
 use Rattle.ann_defs.specs.Graph.{has}
 use Rattle.graph_files.specs.Grammar.{layers_at, layer_at}
-use Rattle.graph_files.specs.Index.{layer_ids, layer_rows}
-use Rattle.graph_files.specs.Layers.{Layered}
-use Rattle.graph_files.specs.Members.{holds, count_in, held_over, count_over}
+use Rattle.graph_rows.specs.Index.{layer_ids, layer_rows}
+use Rattle.graph_rows.specs.Layers.{Layered}
+use Rattle.graph_rows.specs.Members.{holds, count_in, held_over, count_over}
 use Rattle.graph_files.specs.Reading.{Shows}
-use Rattle.graph_files.specs.WellFormed.{AreFurtherLayers, IsFurtherLayer, layer_words}
+use Rattle.graph_rows.specs.WellFormed.{AreFurtherLayers, IsFurtherLayer, layer_words}
 use Rattle.graph_files.proofs.RowLoop.{fails_along}
 use Rattle.graph_files.proofs.Shown.{bytes_on}
-use Rattle.graph_files.proofs.Totals.{entries_of}
+use Rattle.graph_rows.proofs.Totals.{entries_of}
 use Rattle.graph_files.proofs.UpperLoop.{Entries, Read, entries_push, held_push, count_push, further_push, layers_on, layers_broken, layers_done}
 use Rattle.graph_files.proofs.read_layers.read_layers.Goals as goal
 
@@ -26,19 +27,17 @@ loop-i-init g c =
     let base : ℕ → Bool = λ id. nat_lt id h.count in
     let none : map entries_of c.new-layers.result.items ≡ [] = ap (map entries_of) c.new-layers.ensures.items in
     record {
-      layers = told_then (g.F.Shelf.held c.args.shelf.now) c.requires.shows (λ files shows.
+      layers = told_then (g.F.Shelf.shown c.args.shelf.now).held c.requires.shows (λ files shows.
           ap (λ (ls : List Entries). layers_at h.start h.degree (held_over base ls) (count_over h.count ls) c.args.words (bytes_of files c.args.name.now) (h.layers - 1) c.args.at ls) none);
       sound = subst (AreFurtherLayers h.start h.degree base) (sym none) tt;
       count = omega (arith, ap (λ (ls : List Layered). length ls) c.new-layers.ensures.items);
       few = subst (λ (ls : List Entries). count_over h.count ls ≤ 4194304) (sym none) c.requires.count;
       sum = let zero : c.args.words + 0 ≡ c.args.words = omega arith in sym (ap (λ (ls : List Entries). c.args.words + sum_by (words_in h.degree) ls) none ∙ zero);
       limit = c.requires.words;
-      bytes = told_then (g.F.Shelf.held c.args.shelf.now) c.requires.shows (λ files shows i low high. absurd (omega arith));
+      bytes = told_then (g.F.Shelf.shown c.args.shelf.now).held c.requires.shows (λ files shows i low high. absurd (omega arith));
       end = omega arith;
       shows = c.requires.shows;
-      same = refl;
-      reads = λ name. omega arith;
-      writes = λ name. omega arith;
+      only_reads = only_reads_same _ _ (λ never. never);
     }
 
 pub read_layer-requires : goal.read_layer-requires
@@ -51,11 +50,11 @@ read_layer-requires g c =
       count = subst (λ k. k ≤ 4194304) (sym n) c.loop-i.invariant.few;
       words = c.loop-i.invariant.limit;
       ascending = c.top-below.ensures.ascending;
-      shows = subst (λ o. IfSome o (λ files. Shows (bytes_of files c.args.name.now) c.loop-i.window)) (sym c.loop-i.invariant.same) c.loop-i.invariant.shows;
+      shows = subst (λ o. IfSome o (λ files. Shows (bytes_of files c.args.name.now) c.loop-i.window)) (sym c.loop-i.invariant.only_reads.held) c.loop-i.invariant.shows;
     }
 
 pub returns-in-Err-clause-layers : goal.returns-in-Err-clause-layers
-returns-in-Err-clause-layers g c = both_told (g.F.Shelf.held c.args.shelf.now) (g.F.Shelf.held c.loop-i.shelf) c.loop-i.invariant.same c.loop-i.invariant.layers c.in-Err.ensures.layer (λ files so_far broken.
+returns-in-Err-clause-layers g c = both_told (g.F.Shelf.shown c.args.shelf.now).held (g.F.Shelf.shown c.loop-i.shelf).held c.loop-i.invariant.only_reads.held c.loop-i.invariant.layers c.in-Err.ensures.layer (λ files so_far broken.
     let h = c.args.h in
     let base : ℕ → Bool = λ id. nat_lt id h.count in
     let file = bytes_of files c.args.name.now in
@@ -82,7 +81,7 @@ loop-i-preserved g c =
     let many : length c.ids.result.now ≡ length layer = ap length c.ids.ensures.value ∙ length-map layer (λ (e : ℕ × List ℕ). e.0) in
     let next : ℕ = c.in-Ok.read.1 in
     record {
-      layers = both_told (g.F.Shelf.held c.args.shelf.now) (g.F.Shelf.held c.loop-i.shelf) c.loop-i.invariant.same c.loop-i.invariant.layers c.in-Ok.ensures.layer (λ files so_far step.
+      layers = both_told (g.F.Shelf.shown c.args.shelf.now).held (g.F.Shelf.shown c.loop-i.shelf).held c.loop-i.invariant.only_reads.held c.loop-i.invariant.layers c.in-Ok.ensures.layer (λ files so_far step.
           let file = bytes_of files c.args.name.now in
           let total : Read = layers_at h.start h.degree base h.count c.args.words file (h.layers - 1) c.args.at [] in
           let read : layer_at h.start h.degree (held_over base layers) (count_over h.count layers) c.loop-i.total file c.loop-i.place ≡ Ok (layer_ids layer, layer_rows layer, next) =
@@ -101,17 +100,15 @@ loop-i-preserved g c =
           let here : length c.ids.result.now * (h.degree + 1) ≡ length layer * (h.degree + 1) = ap (λ k. k * (h.degree + 1)) many in
           omega (arith, c.loop-i.invariant.sum, more, here);
       limit = let here : length c.ids.result.now * (h.degree + 1) ≡ length layer * (h.degree + 1) = ap (λ k. k * (h.degree + 1)) many in omega (arith, c.in-Ok.ensures.words, here);
-      bytes = both_told (g.F.Shelf.held c.args.shelf.now) (g.F.Shelf.held c.loop-i.shelf) c.loop-i.invariant.same c.loop-i.invariant.bytes c.in-Ok.ensures.bytes (λ files so_far more.
+      bytes = both_told (g.F.Shelf.shown c.args.shelf.now).held (g.F.Shelf.shown c.loop-i.shelf).held c.loop-i.invariant.only_reads.held c.loop-i.invariant.bytes c.in-Ok.ensures.bytes (λ files so_far more.
           bytes_on (bytes_of files c.args.name.now) c.args.at c.loop-i.place next so_far more);
       end = omega (arith, c.in-Ok.ensures.end, c.loop-i.invariant.end);
-      shows = subst (λ o. IfSome o (λ files. Shows (bytes_of files c.args.name.now) c.read_layer.new.window)) c.loop-i.invariant.same c.in-Ok.ensures.shows;
-      same = c.in-Ok.ensures.same ∙ c.loop-i.invariant.same;
-      reads = λ name. omega (arith, c.loop-i.invariant.reads name, c.in-Ok.ensures.reads name);
-      writes = λ name. omega (arith, c.loop-i.invariant.writes name, c.in-Ok.ensures.writes name);
+      shows = subst (λ o. IfSome o (λ files. Shows (bytes_of files c.args.name.now) c.read_layer.new.window)) c.loop-i.invariant.only_reads.held c.in-Ok.ensures.shows;
+      only_reads = only_reads_then _ _ _ _ c.loop-i.invariant.only_reads c.in-Ok.ensures.only_reads (λ never. absurd never);
     }
 
 pub returns-clause-layers : goal.returns-clause-layers
-returns-clause-layers g c = told_then (g.F.Shelf.held c.args.shelf.now) c.loop-i.invariant.layers (λ files so_far.
+returns-clause-layers g c = told_then (g.F.Shelf.shown c.args.shelf.now).held c.loop-i.invariant.layers (λ files so_far.
     let h = c.args.h in
     let base : ℕ → Bool = λ id. nat_lt id h.count in
     let layers : List Entries = map entries_of c.loop-i.layers.items in

@@ -2,7 +2,7 @@ use Rattle.std.proofs.Common.{ℕ, ◌<◌, ◌≤◌, List, length, nat_lt, sym
 use Rattle.std.proofs.lemmas.Bool.{ltb-true, ltb-false}
 use Rattle.std.proofs.lemmas.List.{length-map}
 use Rattle.ann_defs.specs.Graph.{has}
-use Rattle.graph_files.specs.Members.{held_over, count_over}
+use Rattle.graph_rows.specs.Members.{held_over, count_over}
 use Rattle.graph_files.proofs.UpperLoop.{top_held, top_count, no_layers}
 use Rattle.graph_files.proofs.read_layers.top.Goals as goal
 

@@ -1,4 +1,4 @@
-use Rattle.graph_files.proofs.Examples.{four_built}
+use Rattle.graph_rows.proofs.Examples.{four_built}
 use Rattle.graph_files.proofs.tests.four_points.Goals as goal
 
 pub returns : goal.returns

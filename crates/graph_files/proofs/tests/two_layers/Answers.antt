@@ -1,6 +1,6 @@
 use Rattle.std.proofs.Common.{List, [], ◌∷◌, ◌++◌, ap, ◌∙◌}
-use Rattle.graph_files.specs.Layers.{Layered}
-use Rattle.graph_files.proofs.Examples.{two_built}
+use Rattle.graph_rows.specs.Layers.{Layered}
+use Rattle.graph_rows.proofs.Examples.{two_built}
 use Rattle.graph_files.proofs.tests.two_layers.Goals as goal
 
 pub returns : goal.returns

@@ -1,34 +1,26 @@
-use Rattle.std.proofs.Common.{take, ap, Err}
-use Rattle.graph_files.specs.Index.{Contents, layers_bytes, text_of}
-use Rattle.graph_files.specs.View.{contents}
-use Rattle.graph_files.specs.Writing.{pending}
-use Rattle.bin_files.proofs.Writes.{begin_slipped}
-use Rattle.graph_files.proofs.IndexBytes.{left_some, left_all, text_from, adds_some_last}
+use Rattle.std.proofs.Common.{◌∙◌, [], inr}
+use Rattle.ann_shelf.proofs.Grow.{grows_then, finished}
+use Rattle.ann_shelf.proofs.Only.{only_writes_then}
+use Rattle.ann_shelf.proofs.Results.{passed_on}
+use Rattle.graph_rows.specs.Index.{text_of}
+use Rattle.graph_rows.specs.View.{contents}
+use Rattle.graph_files.proofs.Grown.{on_ok_then}
 use Rattle.graph_files.proofs.write.write_index.Goals as goal
 
-pub returns-in-Err-clause-err : goal.returns-in-Err-clause-err
-returns-in-Err-clause-err g c = begin_slipped (g.F.Shelf.held c.args.shelf.now) (g.F.Shelf.held c.begin_file.new.shelf) c.args.name.now (text_of (contents c.args.index.now)) c.in-Err.slip
-    (λ e. c.in-Err.ensures.failed (ap Err e)) (λ e. c.in-Err.ensures.no_memory (ap Err e))
+pub returns-in_err-write_text-clause-only_writes : goal.returns-in_err-write_text-clause-only_writes
+returns-in_err-write_text-clause-only_writes g c =
+    only_writes_then _ _ _ _ c.in_ok-begin.ensures.only_writes c.in_err-write_text.ensures.only_writes (λ told. inr (passed_on c.from_residual-in_err-write_text.result _ _ c.from_residual-in_err-write_text.ensures.1 told))
 
-pub returns-in-Err-write_body-clause-err : goal.returns-in-Err-write_body-clause-err
-returns-in-Err-write_body-clause-err g c =
-    let i : Contents = contents c.args.index.now in
-    left_some (g.F.Shelf.held c.args.shelf.now) (g.F.Shelf.held c.begin_file.new.shelf) (g.F.Shelf.held c.write_body.new.shelf) c.args.name.now (pending c.push_all.new.self) (layers_bytes i.layers) (text_of i)
-    c.in-Ok.ensures.ok c.in-Err-write_body.ensures.err (text_from i (pending c.push_all.new.self) (pending c.new-pieces.result) c.header_of.result c.push_all.ensures.bytes c.new-pieces.ensures.empty c.header_of.ensures)
+pub returns-clause-ok : goal.returns-clause-ok
+returns-clause-ok g c =
+    let text = text_of (contents c.args.index.now) in
+    on_ok_then c.finish.result c.finish.ensures.ok (λ end.
+    finished (g.F.Shelf.shown c.args.shelf.now).begun (g.F.Shelf.shown c.write_text.new.shelf).begun (g.F.Shelf.shown c.args.shelf.now).held (g.F.Shelf.shown c.write_text.new.shelf).held (g.F.Shelf.shown c.finish.new.self).held c.args.name.now text
+    (g.met.F.Shelf.tells_begun c.args.shelf.now)
+    (grows_then (g.F.Shelf.shown c.args.shelf.now).begun (g.F.Shelf.shown c.begin.new.self).begun (g.F.Shelf.shown c.write_text.new.shelf).begun c.args.name.now [] text c.in_ok-begin.ensures.ok c.in_ok-write_text.ensures.ok)
+    (c.in_ok-write_text.ensures.held ∙ c.in_ok-begin.ensures.held) end)
 
-pub returns-in-Ok-flush-clause-ok : goal.returns-in-Ok-flush-clause-ok
-returns-in-Ok-flush-clause-ok g c =
-    let i : Contents = contents c.args.index.now in
-    left_all (g.F.Shelf.held c.args.shelf.now) (g.F.Shelf.held c.begin_file.new.shelf) (g.F.Shelf.held c.write_body.new.shelf) (g.F.Shelf.held c.flush.new.shelf) c.args.name.now
-    (pending c.push_all.new.self) (pending c.write_body.new.pieces) (pending c.flush.new.self) (layers_bytes i.layers) (text_of i)
-    c.in-Ok.ensures.ok c.in-Ok-write_body.ensures.ok c.in-Ok-flush.ensures.ok (ap (λ n. take n c.flush.new.self.bytes) c.in-Ok-flush.ensures.empty)
-    (text_from i (pending c.push_all.new.self) (pending c.new-pieces.result) c.header_of.result c.push_all.ensures.bytes c.new-pieces.ensures.empty c.header_of.ensures)
-
-pub returns-in-Err-flush-clause-err : goal.returns-in-Err-flush-clause-err
-returns-in-Err-flush-clause-err g c =
-    let i : Contents = contents c.args.index.now in
-    left_some (g.F.Shelf.held c.args.shelf.now) (g.F.Shelf.held c.begin_file.new.shelf) (g.F.Shelf.held c.flush.new.shelf) c.args.name.now (pending c.push_all.new.self) (layers_bytes i.layers) (text_of i)
-    c.in-Ok.ensures.ok
-    (adds_some_last (g.F.Shelf.held c.begin_file.new.shelf) (g.F.Shelf.held c.write_body.new.shelf) (g.F.Shelf.held c.flush.new.shelf) c.args.name.now (pending c.push_all.new.self) (pending c.write_body.new.pieces) (layers_bytes i.layers)
-    c.in-Ok-write_body.ensures.ok c.in-Err-flush.ensures.err)
-    (text_from i (pending c.push_all.new.self) (pending c.new-pieces.result) c.header_of.result c.push_all.ensures.bytes c.new-pieces.ensures.empty c.header_of.ensures)
+pub returns-clause-only_writes : goal.returns-clause-only_writes
+returns-clause-only_writes g c =
+    only_writes_then _ _ _ _ (only_writes_then _ _ _ _ {R = ⊥} c.in_ok-begin.ensures.only_writes c.in_ok-write_text.ensures.only_writes (λ never. absurd never))
+    c.finish.ensures.only_writes (λ told. inr told)

@@ -1,16 +1,13 @@
-use Rattle.std.proofs.Common.{◌≡◌, ℕ, List, length, ap, ◌∙◌}
-use Rattle.std.proofs.lemmas.List.{length-map}
-use Rattle.graph_files.specs.Writing.{pending}
-use Rattle.graph_files.proofs.IndexBytes.{layer_uncounted, layer_unlisted}
+use Rattle.std.proofs.Common.{inr}
+use Rattle.ann_shelf.proofs.Only.{only_writes_then}
+use Rattle.ann_shelf.proofs.Results.{passed_on}
 use Rattle.graph_files.proofs.write.write_layer.Goals as goal
 
-pub returns-in-Err-clause-err : goal.returns-in-Err-clause-err
-returns-in-Err-clause-err g c =
-    let many : length c.ids.result.now ≡ length c.args.layer.now.entries = ap length c.ids.ensures.value ∙ length-map c.args.layer.now.entries (λ (e : ℕ × List ℕ). e.0) in
-    layer_uncounted (g.F.Shelf.held c.args.shelf.now) (g.F.Shelf.held c.put.new.shelf) c.args.name.now (pending c.args.pieces.now) (length c.ids.result.now) c.args.layer.now.entries many c.in-Err.ensures.err
+pub returns-in_err-write_words-clause-only_writes : goal.returns-in_err-write_words-clause-only_writes
+returns-in_err-write_words-clause-only_writes g c =
+    only_writes_then _ _ _ _ c.in_ok-put.ensures.only_writes c.in_err-write_words.ensures.only_writes (λ told. inr (passed_on c.from_residual-in_err-write_words.result _ _ c.from_residual-in_err-write_words.ensures.1 told))
 
-pub returns-in-Err-write_words-clause-err : goal.returns-in-Err-write_words-clause-err
-returns-in-Err-write_words-clause-err g c =
-    let many : length c.ids.result.now ≡ length c.args.layer.now.entries = ap length c.ids.ensures.value ∙ length-map c.args.layer.now.entries (λ (e : ℕ × List ℕ). e.0) in
-    layer_unlisted (g.F.Shelf.held c.args.shelf.now) (g.F.Shelf.held c.put.new.shelf) (g.F.Shelf.held c.write_words.new.shelf) c.args.name.now (pending c.args.pieces.now) (pending c.put.new.self)
-    (length c.ids.result.now) c.ids-2.result.now c.args.layer.now.entries many c.ids-2.ensures.value c.in-Ok.ensures.ok c.in-Err-write_words.ensures.err
+pub returns-clause-only_writes : goal.returns-clause-only_writes
+returns-clause-only_writes g c =
+    only_writes_then _ _ _ _ (only_writes_then _ _ _ _ {R = ⊥} c.in_ok-put.ensures.only_writes c.in_ok-write_words.ensures.only_writes (λ never. absurd never))
+    c.write_rows.ensures.only_writes (λ told. inr told)

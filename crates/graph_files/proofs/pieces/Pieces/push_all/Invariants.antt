@@ -1,5 +1,5 @@
 use Rattle.std.proofs.Common.{◌≡◌, ◌+◌, ◌*◌, ◌++◌, take}
-use Rattle.graph_files.specs.Index.{words}
+use Rattle.graph_rows.specs.Index.{words}
 use Rattle.graph_files.specs.Writing.{pending}
 use Rattle.graph_files.proofs.pieces.Pieces.push_all.Given as goal
 

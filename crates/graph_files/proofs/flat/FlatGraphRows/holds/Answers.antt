@@ -1,7 +1,0 @@
-use Rattle.std.proofs.Common.{sym, ap, ◌∙◌, length, nat_lt}
-use Rattle.graph_files.specs.Flat.{Flat}
-use Rattle.graph_files.proofs.BlockRows.{length-rows_in}
-use Rattle.graph_files.proofs.flat.FlatGraphRows.holds.Goals as goal
-
-pub returns : goal.returns
-returns c = ap (nat_lt c.args.id) (sym (length-rows_in c.self.inside.count c.self.inside.width c.self.inside.words.items) ∙ ap (λ (g : Flat). length g.rows) c.self.view_is)

@@ -1,0 +1,9 @@
+pub mod BlockRows
+pub mod Examples
+pub mod Finding
+pub mod FlatIndex
+pub mod LayerLists
+pub mod LayerRowFacts
+pub mod MemberIds
+pub mod Parts
+pub mod Totals

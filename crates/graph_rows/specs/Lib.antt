@@ -1,0 +1,7 @@
+pub mod Blocks
+pub mod Flat
+pub mod Index
+pub mod Layers
+pub mod Members
+pub mod View
+pub mod WellFormed
