@@ -1,16 +1,4 @@
-pub mod Tables
-pub mod Claims
-pub mod Finishes
-pub mod Holdings
 pub mod Workers
-pub mod Looks
-pub mod Splits
-pub mod Joins
-pub mod Begins
-pub mod Closes
-pub mod Emptying
 pub mod Progress
-pub mod Counts
 pub mod StolenRounds
-pub mod RoundEvents
 pub mod Forking

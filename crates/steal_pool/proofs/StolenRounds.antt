@@ -5,19 +5,19 @@ use mathlib.Core.Logic.{dite}
 use native.Mathlib.Decide.{ℕ_discrete}
 use lib.ListN.{get_elem?}
 use Rattle.std.specs.Option.{option_to_list}
-use Rattle.atomic_table.proofs.Lists.{at_longer, at_last}
+use Rattle.steal_table.proofs.Finishes.{at_longer, at_last}
 use Rattle.std.proofs.lemmas.List.{get_or-set_same, get_or-set_other}
 use Rattle.steal_pool.specs.declared.post.Post.{Post}
-use Rattle.steal_pool.specs.declared.view.Size.{Size}
-use Rattle.steal_pool.specs.declared.view.Entry.{Entry}
-use Rattle.steal_pool.specs.declared.view.View.{View}
+use Rattle.steal_table.specs.declared.view.Size.{Size}
+use Rattle.steal_table.specs.declared.view.Entry.{Entry}
+use Rattle.steal_table.specs.declared.view.View.{View}
 use Rattle.steal_pool.specs.Shares.{EachFrom}
-use Rattle.steal_pool.specs.Rule.{HasEntry, CameBack, taken_over}
-use Rattle.steal_pool.specs.Steps.{HasEntryOf, AllBack}
-use Rattle.steal_pool.specs.Passes.{BoardId, PassState}
-use Rattle.steal_pool.specs.Opened.{AllFresh, fresh, caller_of}
+use Rattle.steal_table.specs.Rule.{HasEntry, CameBack, taken_over}
+use Rattle.steal_table.specs.Steps.{HasEntryOf, AllBack}
+use Rattle.steal_table.specs.Passes.{BoardId, PassState}
+use Rattle.steal_table.specs.Opened.{AllFresh, fresh, caller_of}
 use Rattle.steal_pool.specs.Worker.{AllWanted, Ready}
-use Rattle.steal_pool.proofs.Joins.{at_append}
+use Rattle.steal_table.proofs.Joins.{at_append}
 
 -- a new pass is ready
 pub fresh_ready : (board : BoardId) (want : List (List ℕ)) (i : ℕ) (p : PassState) → p ≡ fresh board i → Ready board want p × (p.view.number ≡ i)

@@ -3,17 +3,16 @@ use Rattle.std.proofs.Common.{◌≡◌, ℕ, List, [], ◌∷◌, ◌++◌, len
 use Rattle.std.proofs.lemmas.List.{drop_all}
 use lib.ListN.{get_elem?}
 use mathlib.Core.Option.{some}
-use Rattle.steal_pool.specs.declared.view.Entry.{Entry}
-use Rattle.steal_pool.specs.declared.view.View.{View}
-use Rattle.steal_pool.specs.Rule.{entry}
-use Rattle.steal_pool.specs.Steps.{holding, with_entry, AllBack, HasEntryOf}
-use Rattle.steal_pool.specs.declared.view.Size.{Size}
-use Rattle.atomic_table.proofs.Lists.{at_longer, at_last}
-use Rattle.steal_pool.proofs.Tables.{back_same}
-use Rattle.steal_pool.specs.Passes.{BoardId, PassState}
-use Rattle.steal_pool.specs.Lending.{refilled}
+use Rattle.steal_table.specs.declared.view.Entry.{Entry}
+use Rattle.steal_table.specs.declared.view.View.{View}
+use Rattle.steal_table.specs.Rule.{entry}
+use Rattle.steal_table.specs.Steps.{holding, with_entry, AllBack, HasEntryOf}
+use Rattle.steal_table.specs.declared.view.Size.{Size}
+use Rattle.steal_table.proofs.Tables.{back_same}
+use Rattle.steal_table.specs.Passes.{BoardId, PassState}
+use Rattle.steal_table.specs.Lending.{refilled}
 use Rattle.steal_pool.specs.Worker.{AllWanted, Ready, Grown}
-use Rattle.steal_pool.proofs.Finishes.{at_push}
+use Rattle.steal_table.proofs.Finishes.{at_longer, at_last, at_push}
 
 -- a block that is filled whole has the words that were written
 pub refilled_whole : (old w : List ℕ) → length w ≡ length old → refilled old w ≡ w

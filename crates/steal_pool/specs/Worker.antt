@@ -1,11 +1,11 @@
 -- What a worker keeps in a round.
 use Rattle.std.specs.Prelude.{◌≡◌, ℕ, List, [], length, slice_index_or, None, IsSome, IsSomeAnd}
 use Rattle.steal_pool.specs.declared.post.Post.{Post}
-use Rattle.steal_pool.specs.declared.view.Size.{Size}
-use Rattle.steal_pool.specs.declared.view.Entry.{Entry}
-use Rattle.steal_pool.specs.declared.view.View.{View}
-use Rattle.steal_pool.specs.Rule.{HasEntry}
-use Rattle.steal_pool.specs.Passes.{BoardId, PassState}
+use Rattle.steal_table.specs.declared.view.Size.{Size}
+use Rattle.steal_table.specs.declared.view.Entry.{Entry}
+use Rattle.steal_table.specs.declared.view.View.{View}
+use Rattle.steal_table.specs.Rule.{HasEntry}
+use Rattle.steal_table.specs.Passes.{BoardId, PassState}
 
 -- the round has this many tasks of this width
 abbrev pub Fits : Size → List (List ℕ) → ℕ → Type 0

@@ -2,7 +2,7 @@
 //!
 //! Where two threads start others at the same moment, the new ones often share a processor for a while, though another is
 //! idle. So all are started from here, one after another.
-ghost use Rattle.std.specs.Prelude.{◌≡◌, ◌<◌, ◌≤◌, ◌+◌, ◌^◌, length};
+ghost use Rattle.std.specs.Prelude.{◌≡◌, ◌<◌, ◌+◌, ◌^◌, length};
 ghost use denote.Param.Send.{IsSync, IsSend};
 ghost use Rattle.std.specs.Fork.{AcceptsAt, ChangesAt};
 ghost use Rattle.steal_pool.specs.Fork.{AcceptsFrom, ChangesFrom};

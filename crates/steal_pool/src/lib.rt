@@ -5,45 +5,35 @@
 //!
 //! `Work` says what a round computes, `Post` is a worker's place with its scratch, `Rounds` is a pool, and `Blocks`
 //! is what a round gives. `SerialRounds` runs a round in one loop, `RayonRounds` by one fixed share for each worker,
-//! and `StealRounds` by shares whose tasks the workers claim and steal from each other.
+//! and `StealRounds` by shares whose tasks the workers claim and steal from each other. A `Pool` is any of them.
 //!
-//! A stolen round is a `Round`. `Board`, `Pass` and `Claim` are its steps, and `Report` says who ran which task.
+//! A stolen round is a `Round`, over the table of `steal_table`: `Board`, `Pass` and `Claim` are its steps, and `Report`
+//! says who ran which task.
 #![tactic(auto)]
 
-#[cfg(test)]
-mod begun_tests;
-mod blocks;
-mod board;
-mod close;
 mod fork;
+mod pool;
 mod post;
 mod ranges;
 mod rayon_rounds;
-mod report;
 mod round;
 mod rounds;
-mod rule;
 mod serial;
 mod shares;
 mod steal_rounds;
-#[cfg(test)]
-mod stolen_tests;
 mod sweep;
 mod tasks;
-#[cfg(test)]
-mod tests;
 mod turns;
-mod view;
 mod work;
 mod worker;
 
-pub use blocks::Blocks;
-pub use board::{Board, Claim, Pass};
-pub use post::Post;
+pub use ann_defs::Way;
+pub use pool::Pool;
+pub use post::{Post, posts_of};
 pub use rayon_rounds::RayonRounds;
-pub use report::Report;
 pub use round::Round;
-pub use rounds::{Rounds, Way};
+pub use rounds::Rounds;
 pub use serial::SerialRounds;
 pub use steal_rounds::StealRounds;
+pub use steal_table::{Blocks, Board, Claim, Pass, Report};
 pub use work::Work;

@@ -1,10 +1,12 @@
 //! Where a worker stands.
-ghost use Rattle.std.specs.Prelude.{◌≡◌};
-ghost use Rattle.steal_pool.specs.Work.{scratch_of};
+ghost use Rattle.std.specs.Prelude.{◌≡◌, length, Ok, IfOk};
+ghost use Rattle.steal_pool.specs.Work.{scratch_of, AllServe};
 
-use crate::board::Pass;
 use crate::ranges::TaskRange;
+use ann_shelf::NoMemory;
 use crossbeam_deque::Worker;
+use std::alloc::Global;
+use steal_table::Pass;
 
 /// One worker's post: its scratch, which it keeps from round to round.
 ///
@@ -31,4 +33,23 @@ impl<S> Post<S> {
             deque: None,
         }
     }
+}
+
+/// A post for each of so many workers, with scratches that `make` makes, one after another.
+///
+/// Memory: the posts, and what `make` takes. A refusal leaves nothing.
+pub fn posts_of<S: Drop, F: Fn() -> Result<S, NoMemory>>(
+    alloc: Global,
+    workers: u32,
+    make: F,
+) -> Result<Vec<Post<S>>, NoMemory>
+    requires { F.IsAlwaysCallable make }
+    ensures count { IfOk result (λ v. length v.items ≡ workers) }
+    ensures serve { IfOk result (λ v. AllServe (λ s. F.post make (Ok s)) v.items) }
+{
+    let mut posts = Vec::with_capacity(alloc, workers as usize)?;
+    for _ in 0..workers {
+        posts.push(Post::new(make()?))?;
+    }
+    Ok(posts)
 }

@@ -2,6 +2,7 @@
 ghost use Rattle.std.specs.Prelude.{◌≡◌, ◌+◌, ◌-◌, ◌<◌, ◌≤◌, IfSome};
 
 use crate::shares::first_task;
+use ann_defs::MAX_WORKERS;
 
 /// The tasks from `from` on, up to `to`, which is excluded: at least one.
 #[derive(Clone, Copy, Drop)]
@@ -14,7 +15,7 @@ pub(crate) struct TaskRange {
 impl TaskRange {
     // The share of a worker, if it has a task.
     pub(crate) fn share(tasks: u32, workers: u32, worker: u32) -> Option<TaskRange>
-        requires { (worker < workers) × (workers ≤ 64) }
+        requires { (worker < workers) × (workers ≤ MAX_WORKERS) }
         ensures { IfSome result (λ r. r.to ≤ tasks) }
     {
         let from = first_task(tasks, workers, worker);

@@ -1,7 +1,9 @@
 //! Many workers, a fixed share for each.
+ghost use Rattle.ann_defs.specs.declared.limits.TheConstants.{MAX_WORKERS};
 ghost use Rattle.std.specs.Prelude.{◌≡◌, ◌<◌, ◌≤◌};
 
-use crate::rounds::{Rounds, Way};
+use crate::rounds::Rounds;
+use ann_defs::Way;
 
 /// Workers that run one fixed share of the tasks each, by `rayon`'s `par_for_each_mut` over the posts.
 ///
@@ -10,15 +12,15 @@ use crate::rounds::{Rounds, Way};
 #[derive(Drop)]
 pub struct RayonRounds {
     workers: u32,
-    ghost in_range: { (0 < workers) × (workers ≤ 64) },
+    ghost in_range: { (0 < workers) × (workers ≤ MAX_WORKERS) },
 }
 
 impl RayonRounds {
     ghost use Rattle.steal_pool.specs.Pools.{rayon_workers};
 
-    /// A pool of 1 to 64 workers. Takes no memory.
+    /// A pool of 1 to `MAX_WORKERS` workers. Takes no memory.
     pub fn new(workers: u32) -> RayonRounds
-        requires { (0 < workers) × (workers ≤ 64) }
+        requires { (0 < workers) × (workers ≤ MAX_WORKERS) }
         ensures { rayon_workers result ≡ workers }
     {
         RayonRounds { workers }
@@ -34,8 +36,12 @@ impl Rounds for RayonRounds {
         self.workers
     }
 
-    fn way(&self) -> Way {
+    fn way(&self, _tasks: u32) -> Way {
         Way::Shares
+    }
+
+    fn busy(&self, _tasks: u32) -> u32 {
+        self.workers
     }
 
     ghost few = { λ p. p.in_range };

@@ -1,27 +1,22 @@
 //! A stolen round: its memory, its run and its opening by hand.
-ghost use Rattle.std.specs.Prelude.{◌≡◌, ◌+◌, ◌*◌, ◌<◌, ◌≤◌, ℕ, [], length, map, IfOk};
-ghost use Rattle.steal_pool.specs.Rule.{caller_first};
-ghost use Rattle.steal_pool.specs.Opened.{AllFresh, caller_of, HasRoom};
+ghost use Rattle.std.specs.Prelude.{◌≡◌, ◌+◌, ◌*◌, ◌<◌, ◌≤◌, length, IfOk};
+ghost use Rattle.steal_table.specs.Opened.{AllFresh, caller_of};
 ghost use Rattle.steal_pool.specs.Shares.{EachFrom};
 ghost use Rattle.steal_pool.specs.Work.{AllServe};
 ghost use Rattle.steal_pool.specs.Worker.{Fits, HasPass};
 
-use crate::blocks::{Blocks, blanks};
-use crate::board::{Board, Pass};
 use crate::post::Post;
 use crate::ranges::TaskRange;
-use crate::report::Report;
-use crate::rule::{Block, Claiming};
 use crate::sweep::{join_all, sweep};
-use crate::view::{Size, View};
 use crate::work::Work;
 use crate::worker::run_workers;
+use ann_defs::{MAX_WORDS, MAX_WORKERS};
 use ann_shelf::{Gate, NoMemory};
-use atomic_table::{Refused, Seat, Table};
 use crossbeam_deque::{Stealer, Worker};
 use std::alloc::Global;
 use std::marker::Model;
 use std::thread::Threads;
+use steal_table::{Blocks, Board, Pass, Report};
 
 /// A round that has not begun, with all memory that it needs.
 ///
@@ -38,8 +33,8 @@ pub struct Round {
 
 impl Model for Round {
     ghost use Rattle.std.specs.Prelude.{◌≡◌, ◌<◌, length};
-    ghost use Rattle.steal_pool.specs.declared.view.Size.{Size};
-    ghost use Rattle.steal_pool.specs.Opened.{AllFresh, caller_of};
+    ghost use Rattle.steal_table.specs.declared.view.Size.{Size};
+    ghost use Rattle.steal_table.specs.Opened.{AllFresh, caller_of};
 
     ghost Value = { Size };
 
@@ -50,25 +45,16 @@ impl Model for Round {
 }
 
 impl Round {
-    /// A round of tasks with blocks of `width` words, for 1 to 64 workers. It takes memory for the words, the blocks,
-    /// the deques, the seats and the report, and no call on it needs more. At least one task and one word a block, and
-    /// together at most 134,217,728 words.
+    /// A round of tasks with blocks of `width` words, for 1 to `MAX_WORKERS` workers. It takes memory for the words, the
+    /// blocks, the deques, the seats and the report, and no call on it needs more. At least one task and one word a block,
+    /// and together at most `MAX_WORDS` words.
     pub fn new(alloc: Global, tasks: u32, width: u32, workers: u32) -> Result<Round, NoMemory>
         requires some { (0 < tasks) × (0 < width) }
-        requires small { tasks * width ≤ 134217728 }
-        requires workers { (0 < workers) × (workers ≤ 64) }
+        requires small { tasks * width ≤ MAX_WORDS }
+        requires workers { (0 < workers) × (workers ≤ MAX_WORKERS) }
         ensures { IfOk result (λ r. r ≡ record { tasks = tasks; width = width; workers = workers }) }
     {
-        let size = Size {
-            tasks,
-            width,
-            workers,
-        };
-        let blocks = Vec::with_capacity(alloc, tasks as usize)?;
-        let owners = Vec::with_capacity(alloc, tasks as usize)?;
-        let (table, seat) = lay(alloc, size)?;
-        let (board, mut own) = Board::of(table, seat, size, alloc, blocks, owners);
-        let passes = seats(alloc, &board, &mut own, workers)?;
+        let (board, own, passes) = Board::open(alloc, tasks, width, workers)?;
         let deques = deques(alloc, workers)?;
         let stealers = stealers(alloc, deques.as_slice())?;
         Ok(Round {
@@ -132,62 +118,6 @@ impl Round {
         sweep(&board, work, &mut posts[0].scratch, &mut own, gate);
         board.close(own)
     }
-}
-
-// Runs a new round.
-pub(crate) fn run_stolen<R: Threads + Sync, W: Work, G: Gate + Sync>(
-    rt: &R,
-    alloc: Global,
-    work: &W,
-    posts: &mut [Post<W::Scratch>],
-    gate: &G,
-) -> Result<Vec<Vec<u32>>, NoMemory>
-    requires workers { (0 < length posts.old) × (length posts.old ≤ 64) }
-    requires serve { AllServe (W.serves work.now) posts.old }
-    requires some { (0 < length (W.want work.now)) × (0 < W.wide work.now) }
-    requires small { length (W.want work.now) * W.wide work.now ≤ 134217728 }
-    ensures blocks { IfOk result (λ v. map (λ y. y.items) v.items ≡ W.want work.now) }
-    ensures serve { AllServe (W.serves work.now) posts.new }
-{
-    let round = Round::new(alloc, work.tasks(), work.width(), posts.len() as u32)?;
-    let (blocks, _report) = round.run(rt, work, posts, gate);
-    Ok(blocks.into_vec())
-}
-
-// A table with its words and blocks, and the caller's seat.
-fn lay(
-    alloc: Global,
-    size: Size,
-) -> Result<
-    (
-        Table<Block, View, Size, Claiming, Global>,
-        Seat<Block, View>,
-    ),
-    NoMemory,
->
-    ensures { IfOk result (λ t. (t.0.shared.key ≡ size) × (t.0.shared.table_id.words ≡ size.tasks + 1) × (t.0.shared.table_id.slots ≡ size.tasks)
-        × (t.1.table_id ≡ t.0.shared.table_id) × (t.1.me ≡ (caller_first size, []))) }
-{
-    // word 0, and one for each task
-    let words = vec![in alloc; 0u64; size.tasks as usize + 1]?;
-    let blocks = blanks(alloc, size.tasks, size.width as usize)?;
-    match Table::new(alloc, words.as_slice(), blocks, &size) {
-        Ok(made) => Ok(made),
-        Err(Refused { slots: _ }) => Err(NoMemory),
-    }
-}
-
-// The passes of the workers, in the order of their numbers.
-fn seats(alloc: Global, board: &Board, own: &mut Pass, workers: u32) -> Result<Vec<Pass>, NoMemory>
-    requires { (own.old ≡ record { board = board.now; view = caller_first board.now.size; block = [] }) × (workers ≡ board.now.size.workers) }
-    ensures { IfOk result (λ v. AllFresh board.now workers v.items × (own.new ≡ caller_of board.now workers)) }
-{
-    let mut passes = Vec::with_capacity(alloc, workers as usize)?;
-    for number in 0..workers {
-        let pass = board.split(own, number);
-        passes.push(pass)?;
-    }
-    Ok(passes)
 }
 
 // As many deques as workers. A range of 2^27 tasks is halved 27 times, so 32 places are enough for what a worker pushes.

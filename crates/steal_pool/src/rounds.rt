@@ -1,29 +1,20 @@
 //! Who runs a round.
-ghost use Rattle.std.specs.Prelude.{◌≡◌, ℕ, ◌*◌, ◌<◌, ◌≤◌, length, map, IfOk};
+ghost use Rattle.ann_defs.specs.declared.limits.TheConstants.{MAX_WORDS, MAX_WORKERS};
+ghost use Rattle.std.specs.Prelude.{◌≡◌, ℕ, ◌*◌, ◌<◌, ◌≤◌, length, IfOk};
 ghost use Rattle.steal_pool.specs.Work.{AllServe};
 
-use crate::blocks::Blocks;
 use crate::post::Post;
-use crate::round::run_stolen;
+use crate::round::Round;
 use crate::serial::run_all;
 use crate::shares::run_shares;
 use crate::work::Work;
+use ann_defs::Way;
 use ann_shelf::{Gate, NoMemory};
 use std::alloc::Global;
 use std::thread::Threads;
+use steal_table::Blocks;
 
-/// How a pool runs a round.
-#[derive(Clone, Copy)]
-pub enum Way {
-    /// One task after another, in the caller's thread.
-    Serial,
-    /// One fixed share of the tasks for each post, in threads of `rayon`.
-    Shares,
-    /// Shares whose tasks the workers claim and steal from each other, in threads of std.
-    Stealing,
-}
-
-/// A pool of 1 to 64 workers, which runs rounds.
+/// A pool of 1 to `MAX_WORKERS` workers, which runs rounds.
 pub trait Rounds {
     // how many workers there are
     ghost count: { Self → ℕ };
@@ -32,16 +23,20 @@ pub trait Rounds {
     fn workers(&self) -> u32
         ensures { result ≡ count self.now };
 
-    /// How this pool runs a round. The blocks don't depend on it.
-    fn way(&self) -> Way;
+    /// How this pool runs a round of so many tasks. The blocks don't depend on it.
+    fn way(&self, tasks: u32) -> Way;
 
-    ghost few: { (pool : Self) → (0 < count pool) × (count pool ≤ 64) };
+    /// How many of the workers, the first ones, run a round of so many tasks. The blocks don't depend on it.
+    fn busy(&self, tasks: u32) -> u32
+        ensures { (0 < result) × (result ≤ count self.now) };
+
+    ghost few: { (pool : Self) → (0 < count pool) × (count pool ≤ MAX_WORKERS) };
 
     /// Runs a round: each task of the work, each with the scratch of one of the posts.
     ///
-    /// At least one task and one word a block, and together at most 134,217,728 words. It takes memory for the
+    /// At least one task and one word a block, and together at most `MAX_WORDS` words. It takes memory for the
     /// blocks, all before the first task. `gate.task(worker, task)` is called at the beginning of each task.
-    /// Want of memory is the only refusal. Then too the posts still serve, and the round may be run again.
+    /// It fails with `NoMemory` alone. Then too the posts still serve, and the round may be run again.
     final fn run_round<R: Threads + Sync, W: Work, G: Gate + Sync>(
         &mut self,
         rt: &R,
@@ -53,35 +48,48 @@ pub trait Rounds {
         requires posts { length posts.old ≡ count self.old }
         requires serve { AllServe (W.serves work.now) posts.old }
         requires some { (0 < length (W.want work.now)) × (0 < W.wide work.now) }
-        requires small { length (W.want work.now) * W.wide work.now ≤ 134217728 }
+        requires small { length (W.want work.now) * W.wide work.now ≤ MAX_WORDS }
         ensures blocks { IfOk result (λ b. b ≡ W.want work.now) }
         ensures serve { AllServe (W.serves work.now) posts.new }
         ensures workers { count self.new ≡ count self.old }
     {
-        let blocks = run_in_way(self.way(), rt, alloc, work, posts, gate)?;
-        Ok(Blocks::of(blocks))
+        let tasks = work.tasks();
+        let (way, busy) = (self.way(tasks), self.busy(tasks));
+        run_in_way(way, busy, rt, alloc, work, posts, gate)
     }
 }
 
-// Runs a round in this way.
+// Runs a round in this way, with the first posts alone.
 fn run_in_way<R: Threads + Sync, W: Work, G: Gate + Sync>(
     way: Way,
+    busy: u32,
     rt: &R,
     alloc: Global,
     work: &W,
     posts: &mut [Post<W::Scratch>],
     gate: &G,
-) -> Result<Vec<Vec<u32>>, NoMemory>
-    requires workers { (0 < length posts.old) × (length posts.old ≤ 64) }
+) -> Result<Blocks, NoMemory>
+    requires busy { (0 < busy) × (busy ≤ length posts.old) × (busy ≤ MAX_WORKERS) }
     requires serve { AllServe (W.serves work.now) posts.old }
     requires some { (0 < length (W.want work.now)) × (0 < W.wide work.now) }
-    requires small { length (W.want work.now) * W.wide work.now ≤ 134217728 }
-    ensures blocks { IfOk result (λ v. map (λ y. y.items) v.items ≡ W.want work.now) }
+    requires small { length (W.want work.now) * W.wide work.now ≤ MAX_WORDS }
+    ensures blocks { IfOk result (λ b. b ≡ W.want work.now) }
     ensures serve { AllServe (W.serves work.now) posts.new }
 {
+    let (first, _others) = posts.split_at_mut(busy as usize);
     match way {
-        Way::Serial => run_all(alloc, work, &mut posts[0].scratch, gate),
-        Way::Shares => run_shares(rt, alloc, work, posts, gate),
-        Way::Stealing => run_stolen(rt, alloc, work, posts, gate),
+        Way::Serial => {
+            let blocks = run_all(alloc, work, &mut first[0].scratch, gate)?;
+            Ok(Blocks::of(blocks))
+        }
+        Way::Shares => {
+            let blocks = run_shares(rt, alloc, work, first, gate)?;
+            Ok(Blocks::of(blocks))
+        }
+        Way::Stealing => {
+            let round = Round::new(alloc, work.tasks(), work.width(), busy)?;
+            let (blocks, _report) = round.run(rt, work, first, gate);
+            Ok(blocks)
+        }
     }
 }

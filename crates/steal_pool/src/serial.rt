@@ -1,13 +1,14 @@
 //! One worker, one loop.
-ghost use Rattle.std.specs.Prelude.{◌≡◌, length, map, All, IfOk, ◌<◌, ◌≤◌};
+ghost use Rattle.std.specs.Prelude.{◌≡◌, map, IfOk, ◌<◌};
 ghost use Rattle.std.proofs.Common.{arith};
 
-use crate::blocks::blanks;
-use crate::rounds::{Rounds, Way};
+use crate::rounds::Rounds;
 use crate::tasks::run_tasks;
 use crate::work::Work;
+use ann_defs::Way;
 use ann_shelf::{Gate, NoMemory};
 use std::alloc::Global;
+use steal_table::blank_blocks;
 
 /// One worker, which runs the tasks in their order in the caller's thread.
 #[derive(Drop)]
@@ -27,8 +28,12 @@ impl Rounds for SerialRounds {
         1
     }
 
-    fn way(&self) -> Way {
+    fn way(&self, _tasks: u32) -> Way {
         Way::Serial
+    }
+
+    fn busy(&self, _tasks: u32) -> u32 {
+        1
     }
 
     ghost few = { λ _. Prim.omega arith };
@@ -45,7 +50,7 @@ pub(crate) fn run_all<W: Work, G: Gate + Sync>(
     ensures blocks { IfOk result (λ v. map (λ y. y.items) v.items ≡ W.want work.now) }
     ensures serves { W.serves work.now scratch.new }
 {
-    let mut blocks = blanks(alloc, work.tasks(), work.width() as usize)?;
+    let mut blocks = blank_blocks(alloc, work.tasks(), work.width() as usize)?;
     run_tasks(work, scratch, 0, 0, blocks.as_mut_slice(), gate);
     Ok(blocks)
 }

@@ -3,14 +3,15 @@ ghost use Rattle.std.specs.Prelude.{◌≡◌, ◌+◌, ◌<◌, ◌≤◌, ◌+
 ghost use Rattle.steal_pool.specs.Shares.{share_start, IsShare, HasShare, HasDone, EachFrom};
 ghost use Rattle.steal_pool.specs.Work.{AllServe, scratch_of};
 
-use crate::blocks::blanks;
 use crate::post::Post;
 use crate::tasks::run_tasks;
 use crate::work::Work;
+use ann_defs::MAX_WORKERS;
 use ann_shelf::{Gate, NoMemory};
 use rayon::slice::par_for_each_mut;
 use std::alloc::Global;
 use std::thread::Threads;
+use steal_table::blank_blocks;
 
 // Runs the tasks, the share of each post in a thread of its own where there is one.
 pub(crate) fn run_shares<R: Threads + Sync, W: Work, G: Gate + Sync>(
@@ -20,7 +21,7 @@ pub(crate) fn run_shares<R: Threads + Sync, W: Work, G: Gate + Sync>(
     posts: &mut [Post<W::Scratch>],
     gate: &G,
 ) -> Result<Vec<Vec<u32>>, NoMemory>
-    requires workers { (0 < length posts.old) × (length posts.old ≤ 64) }
+    requires workers { (0 < length posts.old) × (length posts.old ≤ MAX_WORKERS) }
     requires serve { AllServe (W.serves work.now) posts.old }
     ensures blocks { IfOk result (λ v. map (λ y. y.items) v.items ≡ W.want work.now) }
     ensures serve { AllServe (W.serves work.now) posts.new }
@@ -37,7 +38,7 @@ pub(crate) fn run_shares<R: Threads + Sync, W: Work, G: Gate + Sync>(
 
 // The first task of a worker's share.
 pub(crate) fn first_task(tasks: u32, workers: u32, worker: u32) -> u32
-    requires { (worker ≤ workers) × (0 < workers) × (workers ≤ 64) }
+    requires { (worker ≤ workers) × (0 < workers) × (workers ≤ MAX_WORKERS) }
     ensures start { result ≡ share_start tasks workers worker }
     ensures within { result ≤ tasks }
 {
@@ -51,13 +52,13 @@ fn blank_share<W: Work>(
     workers: u32,
     worker: u32,
 ) -> Result<Vec<Vec<u32>>, NoMemory>
-    requires { (worker < workers) × (workers ≤ 64) }
+    requires { (worker < workers) × (workers ≤ MAX_WORKERS) }
     ensures share { IfOk result (λ v. IsShare (length (W.want work.now)) workers worker v.items) }
     ensures wide { IfOk result (λ v. All (λ y. length y.items ≡ W.wide work.now) v.items) }
 {
     let from = first_task(work.tasks(), workers, worker);
     let to = first_task(work.tasks(), workers, worker + 1);
-    blanks(alloc, to - from, work.width() as usize)
+    blank_blocks(alloc, to - from, work.width() as usize)
 }
 
 // Gives each post the blank blocks of its share. A refusal leaves some posts without.
@@ -66,7 +67,7 @@ fn hand_out<W: Work>(
     work: &W,
     posts: &mut [Post<W::Scratch>],
 ) -> Result<(), NoMemory>
-    requires workers { (0 < length posts.old) × (length posts.old ≤ 64) }
+    requires workers { (0 < length posts.old) × (length posts.old ≤ MAX_WORKERS) }
     requires serve { AllServe (W.serves work.now) posts.old }
     ensures shares { OnOk result (EachFrom 0 (HasShare (length (W.want work.now)) (W.wide work.now) (length posts.old)) posts.new) }
     ensures serve { AllServe (W.serves work.now) posts.new }
@@ -97,7 +98,7 @@ fn run_post<W: Work, G: Gate>(
     worker: u32,
     gate: &G,
 )
-    requires worker { (worker < workers) × (workers ≤ 64) }
+    requires worker { (worker < workers) × (workers ≤ MAX_WORKERS) }
     requires share { HasShare (length (W.want work.now)) (W.wide work.now) workers worker post.old }
     requires serves { W.serves work.now (scratch_of post.old) }
     ensures done { HasDone (W.want work.now) workers worker post.new }
@@ -124,7 +125,7 @@ fn run_posts<R: Threads + Sync, W: Work, G: Gate + Sync>(
     posts: &mut [Post<W::Scratch>],
     gate: &G,
 )
-    requires workers { (0 < length posts.old) × (length posts.old ≤ 64) }
+    requires workers { (0 < length posts.old) × (length posts.old ≤ MAX_WORKERS) }
     requires shares { EachFrom 0 (HasShare (length (W.want work.now)) (W.wide work.now) (length posts.old)) posts.old }
     requires serve { AllServe (W.serves work.now) posts.old }
     ensures done { EachFrom 0 (HasDone (W.want work.now) (length posts.old)) posts.new }
@@ -135,7 +136,7 @@ fn run_posts<R: Threads + Sync, W: Work, G: Gate + Sync>(
         rt,
         posts,
         |i: usize, post: &mut Post<W::Scratch>|
-            requires { (i < workers) × (workers ≤ 64) × HasShare (length (W.want work.now)) (W.wide work.now) workers i post.now × W.serves work.now (scratch_of post.now) }
+            requires { (i < workers) × (workers ≤ MAX_WORKERS) × HasShare (length (W.want work.now)) (W.wide work.now) workers i post.now × W.serves work.now (scratch_of post.now) }
             ensures { HasDone (W.want work.entry.now) workers i post.exit.now × W.serves work.entry.now (scratch_of post.exit.now) }
         { run_post(work, post, workers, i as u32, gate) },
     );

@@ -1,7 +1,9 @@
 //! Many workers that steal tasks from each other.
+ghost use Rattle.ann_defs.specs.declared.limits.TheConstants.{MAX_WORKERS};
 ghost use Rattle.std.specs.Prelude.{◌≡◌, ◌<◌, ◌≤◌};
 
-use crate::rounds::{Rounds, Way};
+use crate::rounds::Rounds;
+use ann_defs::Way;
 
 /// Workers that run one `Round` for each call: a fixed share each at first, and then what they steal from each other.
 ///
@@ -9,15 +11,15 @@ use crate::rounds::{Rounds, Way};
 #[derive(Drop)]
 pub struct StealRounds {
     workers: u32,
-    ghost in_range: { (0 < workers) × (workers ≤ 64) },
+    ghost in_range: { (0 < workers) × (workers ≤ MAX_WORKERS) },
 }
 
 impl StealRounds {
     ghost use Rattle.steal_pool.specs.Pools.{steal_workers};
 
-    /// A pool of 1 to 64 workers. Takes no memory.
+    /// A pool of 1 to `MAX_WORKERS` workers. Takes no memory.
     pub fn new(workers: u32) -> StealRounds
-        requires { (0 < workers) × (workers ≤ 64) }
+        requires { (0 < workers) × (workers ≤ MAX_WORKERS) }
         ensures { steal_workers result ≡ workers }
     {
         StealRounds { workers }
@@ -33,8 +35,12 @@ impl Rounds for StealRounds {
         self.workers
     }
 
-    fn way(&self) -> Way {
+    fn way(&self, _tasks: u32) -> Way {
         Way::Stealing
+    }
+
+    fn busy(&self, _tasks: u32) -> u32 {
+        self.workers
     }
 
     ghost few = { λ p. p.in_range };

@@ -1,16 +1,16 @@
 //! What the caller does once the workers have returned.
 ghost use Rattle.std.specs.Prelude.{◌≡◌, ◌<◌, ℕ, length};
-ghost use Rattle.steal_pool.specs.Opened.{caller_of};
+ghost use Rattle.steal_table.specs.Opened.{caller_of};
 ghost use Rattle.steal_pool.specs.Worker.{Fits, Ready, Grown, HasPass};
 ghost use Rattle.steal_pool.specs.Shares.{EachFrom};
-ghost use Rattle.steal_pool.specs.Steps.{AllBack, HasEntryOf};
+ghost use Rattle.steal_table.specs.Steps.{AllBack, HasEntryOf};
 ghost use Rattle.steal_pool.specs.Work.{AllServe};
 
-use crate::board::{Board, Pass};
 use crate::post::Post;
 use crate::work::Work;
 use crate::worker::try_task;
 use ann_shelf::Gate;
+use steal_table::{Board, Pass};
 
 // Takes each pass out of its post and joins it. The deques go, with what is left in them.
 pub(crate) fn join_all<W: Work>(

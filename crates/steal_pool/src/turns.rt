@@ -1,7 +1,8 @@
 //! Where a worker looks for its next range.
-ghost use Rattle.std.specs.Prelude.{◌≡◌, ◌<◌, ◌≤◌, length};
+ghost use Rattle.std.specs.Prelude.{◌<◌, ◌≤◌, length};
 
 use crate::ranges::TaskRange;
+use ann_defs::MAX_WORKERS;
 use crossbeam_deque::{Steal, Stealer, Worker};
 
 /// The state of a worker's search. A turn is one pop from its own deque, or one try to steal from another.
@@ -37,7 +38,7 @@ impl Search {
         deque: &mut Worker<TaskRange>,
         stealers: &[Stealer<TaskRange>],
     ) -> Option<TaskRange>
-        requires { (0 < length stealers.now) × (length stealers.now ≤ 64) }
+        requires { (0 < length stealers.now) × (length stealers.now ≤ MAX_WORKERS) }
     {
         if !self.own_is_empty {
             let range = deque.pop();
@@ -65,7 +66,7 @@ impl Search {
 
 // The next of the other workers, in cyclic order; of one worker alone, itself.
 fn next_victim(victim: u32, worker: u32, workers: u32) -> u32
-    requires { (0 < workers) × (workers ≤ 64) }
+    requires { (0 < workers) × (workers ≤ MAX_WORKERS) }
     ensures { result < workers }
 {
     let next = (victim % workers + 1) % workers;

@@ -1,19 +1,20 @@
 //! What a worker does in a stolen round.
-ghost use Rattle.std.specs.Prelude.{◌≡◌, ◌<◌, ◌≤◌, ◌*◌, ℕ, length, slice_index_or};
+ghost use Rattle.std.specs.Prelude.{◌≡◌, ◌<◌, ◌≤◌, ◌*◌, length};
 ghost use Rattle.steal_pool.specs.Worker.{Fits, Ready, Grown, HasPass};
 ghost use Rattle.steal_pool.specs.Shares.{EachFrom};
-ghost use Rattle.steal_pool.specs.Steps.{AllBack, HasEntryOf};
+ghost use Rattle.steal_table.specs.Steps.{AllBack, HasEntryOf};
 ghost use Rattle.steal_pool.specs.Work.{AllServe, scratch_of};
 
-use crate::board::{Board, Claim, Pass};
 use crate::fork::for_each_from;
 use crate::post::Post;
 use crate::ranges::TaskRange;
 use crate::turns::Search;
 use crate::work::Work;
+use ann_defs::MAX_WORKERS;
 use ann_shelf::Gate;
 use crossbeam_deque::{Stealer, Worker};
 use std::thread::Threads;
+use steal_table::{Board, Claim, Pass};
 
 // Claims a task, and runs it if nobody else has it.
 pub(crate) fn try_task<W: Work, G: Gate>(
@@ -104,7 +105,7 @@ fn run_worker<W: Work, G: Gate>(
 )
     requires fits { Fits board.now.size (W.want work.now) (W.wide work.now) }
     requires ready { Ready board.now (W.want work.now) pass.old }
-    requires worker { (worker < length stealers.now) × (length stealers.now ≤ 64) }
+    requires worker { (worker < length stealers.now) × (length stealers.now ≤ MAX_WORKERS) }
     requires serves { W.serves work.now scratch.old }
     ensures ready { Ready board.now (W.want work.now) pass.new }
     ensures number { pass.new.view.number ≡ pass.old.view.number }
@@ -140,7 +141,7 @@ fn run_post<W: Work, G: Gate>(
 )
     requires fits { Fits board.now.size (W.want work.now) (W.wide work.now) }
     requires ready { HasPass board.now (W.want work.now) worker post.old }
-    requires worker { (worker < length stealers.now) × (length stealers.now ≤ 64) }
+    requires worker { (worker < length stealers.now) × (length stealers.now ≤ MAX_WORKERS) }
     requires serves { W.serves work.now (scratch_of post.old) }
     ensures ready { HasPass board.now (W.want work.now) worker post.new }
     ensures serves { W.serves work.now (scratch_of post.new) }
@@ -174,7 +175,7 @@ pub(crate) fn run_workers<R: Threads + Sync, W: Work, G: Gate + Sync>(
 )
     requires fits { Fits board.now.size (W.want work.now) (W.wide work.now) }
     requires ready { EachFrom 0 (HasPass board.now (W.want work.now)) posts.old }
-    requires workers { (0 < length posts.old) × (length posts.old ≤ 64) × (length stealers.now ≡ length posts.old) }
+    requires workers { (0 < length posts.old) × (length posts.old ≤ MAX_WORKERS) × (length stealers.now ≡ length posts.old) }
     requires serve { AllServe (W.serves work.now) posts.old }
     ensures ready { EachFrom 0 (HasPass board.now (W.want work.now)) posts.new }
     ensures serve { AllServe (W.serves work.now) posts.new }
@@ -182,7 +183,7 @@ pub(crate) fn run_workers<R: Threads + Sync, W: Work, G: Gate + Sync>(
     for_each_from(
         rt,
         &|i: usize, post: &mut Post<W::Scratch>|
-            requires { (i < length stealers.now) × (length stealers.now ≤ 64) × Fits board.now.size (W.want work.now) (W.wide work.now) × HasPass board.now (W.want work.now) i post.now × W.serves work.now (scratch_of post.now) }
+            requires { (i < length stealers.now) × (length stealers.now ≤ MAX_WORKERS) × Fits board.now.size (W.want work.now) (W.wide work.now) × HasPass board.now (W.want work.now) i post.now × W.serves work.now (scratch_of post.now) }
             ensures { HasPass board.entry.now (W.want work.entry.now) i post.exit.now × W.serves work.entry.now (scratch_of post.exit.now) }
         { run_post(board, work, post, i as u32, stealers, gate) },
         0,

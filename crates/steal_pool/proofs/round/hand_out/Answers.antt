@@ -1,6 +1,6 @@
 use Rattle.std.proofs.Common.{◌≡◌, ◌<◌, ◌+◌, ◌-◌, ℕ, List, length, subst, arith}
-use Rattle.steal_pool.specs.Opened.{AllFresh}
-use Rattle.steal_pool.specs.Passes.{BoardId}
+use Rattle.steal_table.specs.Opened.{AllFresh}
+use Rattle.steal_table.specs.Passes.{BoardId}
 use Rattle.steal_pool.specs.Shares.{EachFrom}
 use Rattle.steal_pool.specs.Worker.{HasPass}
 use Rattle.steal_pool.proofs.Progress.{serve_set}

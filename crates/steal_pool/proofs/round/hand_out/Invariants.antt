@@ -1,5 +1,5 @@
 use Rattle.std.proofs.Common.{◌≡◌, ◌-◌, length}
-use Rattle.steal_pool.specs.Opened.{AllFresh}
+use Rattle.steal_table.specs.Opened.{AllFresh}
 use Rattle.steal_pool.specs.Shares.{EachFrom}
 use Rattle.steal_pool.specs.Work.{AllServe}
 use Rattle.steal_pool.specs.Worker.{HasPass}

@@ -14,5 +14,5 @@ returns-clause-share g c =
     let i : ℕ = c.args.worker in
     let from = c.first_task-from.ensures.start ∙ ap (λ (k : ℕ). share_start k w i) c.tasks.ensures in
     let to = c.first_task-to.ensures.start ∙ ap (λ (k : ℕ). share_start k w (i + 1)) c.tasks-2.ensures in
-    IfOk-weaker c.blanks.result (λ v. length v.items ≡ c.first_task-to.result - c.first_task-from.result) (λ v. IsShare m w i v.items)
-    (λ v len. share_of m w i c.first_task-from.result c.first_task-to.result v.items c.requires.0 from to len) c.blanks.ensures.count
+    IfOk-weaker c.blank_blocks.result (λ v. length v.items ≡ c.first_task-to.result - c.first_task-from.result) (λ v. IsShare m w i v.items)
+    (λ v len. share_of m w i c.first_task-from.result c.first_task-to.result v.items c.requires.0 from to len) c.blank_blocks.ensures.count

@@ -1,5 +1,5 @@
 use Rattle.std.proofs.Common.{◌≡◌, ◌<◌, ◌∙◌, ℕ, List, Option, IsSomeAnd, length, ap, sym, subst, arith}
-use Rattle.steal_pool.specs.Passes.{BoardId, PassState}
+use Rattle.steal_table.specs.Passes.{BoardId, PassState}
 use Rattle.steal_pool.specs.Worker.{Ready, HasPass}
 use Rattle.steal_pool.proofs.Progress.{from_set, serve_set}
 use Rattle.steal_pool.proofs.StolenRounds.{joined_ready, joined_back}

@@ -1,5 +1,5 @@
 use Rattle.std.proofs.Common.{◌≡◌, ◌<◌, ℕ}
-use Rattle.steal_pool.specs.Rule.{CameBack}
+use Rattle.steal_table.specs.Rule.{CameBack}
 use Rattle.steal_pool.specs.Shares.{EachFrom}
 use Rattle.steal_pool.specs.Work.{AllServe}
 use Rattle.steal_pool.specs.Worker.{Ready, HasPass}

@@ -1,7 +1,7 @@
 use Rattle.std.proofs.Common.{◌≡◌, ◌≢◌, sym, subst, arith}
 use mathlib.Core.Logic.{dite}
 use native.Mathlib.Decide.{ℕ_discrete}
-use Rattle.steal_pool.specs.Steps.{HasEntryOf}
+use Rattle.steal_table.specs.Steps.{HasEntryOf}
 use Rattle.steal_pool.proofs.Workers.{all_back, still_has}
 use Rattle.steal_pool.proofs.sweep.sweep.Goals as goal
 

@@ -1,5 +1,5 @@
 use Rattle.std.proofs.Common.{◌<◌, ℕ}
-use Rattle.steal_pool.specs.Steps.{AllBack, HasEntryOf}
+use Rattle.steal_table.specs.Steps.{AllBack, HasEntryOf}
 use Rattle.steal_pool.specs.Worker.{Ready}
 use Rattle.steal_pool.proofs.sweep.sweep.Given as goal
 

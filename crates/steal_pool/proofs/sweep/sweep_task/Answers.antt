@@ -1,6 +1,6 @@
 use Rattle.std.proofs.Common.{sym, subst}
-use Rattle.steal_pool.specs.Steps.{AllBack}
-use Rattle.steal_pool.specs.Passes.{PassState}
+use Rattle.steal_table.specs.Steps.{AllBack}
+use Rattle.steal_table.specs.Passes.{PassState}
 use Rattle.steal_pool.proofs.sweep.sweep_task.Goals as goal
 
 pub returns-in-None-clause-got : goal.returns-in-None-clause-got

@@ -1,6 +1,6 @@
 use Rattle.std.proofs.Common.{◌≡◌, ◌∙◌, ap, length}
-use Rattle.steal_pool.specs.Passes.{PassState}
-use Rattle.steal_pool.specs.Rule.{entry}
+use Rattle.steal_table.specs.Passes.{PassState}
+use Rattle.steal_table.specs.Rule.{entry}
 use Rattle.std.proofs.Common.{refl}
 use Rattle.steal_pool.proofs.Workers.{finished_ready, finished_view, grown_entry, has_entry}
 use Rattle.steal_pool.proofs.worker.try_task.Goals as goal

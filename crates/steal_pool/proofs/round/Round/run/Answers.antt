@@ -1,5 +1,5 @@
 use Rattle.std.proofs.Common.{◌∙◌, ap}
-use Rattle.steal_pool.specs.declared.view.Size.{Size}
+use Rattle.steal_table.specs.declared.view.Size.{Size}
 use Rattle.steal_pool.proofs.Progress.{serve_set}
 use Rattle.steal_pool.proofs.StolenRounds.{all_wanted}
 use Rattle.steal_pool.proofs.round.Round.run.Goals as goal

@@ -1,0 +1,13 @@
+pub mod Tables
+pub mod Claims
+pub mod Finishes
+pub mod Holdings
+pub mod Looks
+pub mod Splits
+pub mod Joins
+pub mod Begins
+pub mod Closes
+pub mod Emptying
+pub mod Counts
+pub mod RoundEvents
+pub mod RoundLaw

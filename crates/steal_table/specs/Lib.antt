@@ -1,0 +1,9 @@
+pub mod Calls
+pub mod Laws
+pub mod Lending
+pub mod Opened
+pub mod Passes
+pub mod Report
+pub mod RoundState
+pub mod Rule
+pub mod Steps
