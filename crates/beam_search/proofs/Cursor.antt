@@ -8,8 +8,9 @@ use Rattle.ann_defs.specs.declared.near.Near.{Near}
 use Rattle.ann_defs.specs.Ordered.{Has, Rises}
 use Rattle.ann_defs.specs.Nearness.{near_cmp, near_of}
 use Rattle.ann_defs.specs.GreedySearch.{is_in, walk_in, next_of}
-use Rattle.beam_search.specs.Marks.{mark_of, AreSettled, AreUpTo, AreVisited, OnlySeen}
-use Rattle.beam_search.proofs.Settling.{settled_there}
+use Rattle.near_lists.specs.Marks.{mark_of, AreSettled, AreUpTo, AreVisited, OnlySeen}
+use Rattle.near_lists.proofs.Settling.{settled_there}
+use Rattle.near_lists.proofs.Taking.{any_push}
 
 -- all before it are visited, and it isn't
 pub record IsCursor (found : List Near) (len : ℕ) (visited : List Near) (next : ℕ) : Type 0 where
@@ -48,10 +49,6 @@ module _ (found : List Near) (len : ℕ) (visited : List Near) (count next : ℕ
 
 pub cursor_none : (found : List Near) (len : ℕ) → IsCursor found len [] 0
 cursor_none found len = record { inside = omega arith; before = λ k d low lt. absurd (omega arith); here = λ lt d. refl }
-
-pub any_push : (t : Near → Bool) (xs : List Near) (y : Near) → list_any t (xs ++ y ∷ []) ≡ (list_any t xs || t y)
-any_push t [] y = elim (t y) as (λ b. (b || false) ≡ b) [ true ↦ refl | false ↦ refl ]
-any_push t (x ∷ xs) y = elim (t x) as (λ b. (b || list_any t (xs ++ y ∷ [])) ≡ ((b || list_any t xs) || t y)) [ true ↦ refl | false ↦ any_push t xs y ]
 
 or-none : (b : Bool) → (b || false) ≡ b
 or-none true = refl

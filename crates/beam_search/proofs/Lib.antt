@@ -1,9 +1,4 @@
-pub mod Putting
-pub mod Searched
-pub mod Gathering
-pub mod Inserting
-pub mod Marking
-pub mod Settling
 pub mod Cursor
+pub mod Lent
+pub mod Searched
 pub mod Stepping
-pub mod Taking

@@ -10,9 +10,9 @@ use Rattle.ann_defs.specs.Graph.{IsGraph}
 use Rattle.ann_defs.specs.GreedySearch.{Walk, is_in, walk_in, next_of}
 use Rattle.ann_defs.proofs.Order.{has_found}
 use Rattle.ann_defs.proofs.SearchStates.{IsWalking, next_held, walking_room, walking_more, visited_more}
-use Rattle.beam_search.specs.Marks.{AreSettled}
+use Rattle.near_lists.specs.Marks.{AreSettled}
 use Rattle.beam_search.proofs.Cursor.{IsCursor, next_some, settled_marked}
-use Rattle.beam_search.proofs.Inserting.{has_get_or}
+use Rattle.near_lists.proofs.Inserting.{has_get_or}
 
 module _ (points : List (List ℕ)) (row : ℕ → List ℕ) (query : List ℕ) (beam : ℕ) (held : ℕ → Bool) (g : IsGraph (length points) held row) (start : Walk)
     (found : List Near) (len : ℕ) (visited : List Near) (count next : ℕ)

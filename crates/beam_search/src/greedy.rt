@@ -9,11 +9,11 @@ ghost use Rattle.ann_defs.specs.GreedySearch.{search_of};
 ghost use Rattle.beam_search.specs.Room.{after_search};
 ghost use Rattle.beam_search.specs.Measured.{AreMeasured};
 
-use crate::marks::next_stamp;
 use crate::scratch::Scratch;
 use crate::walk::walk_all;
 use bin_files::Points;
-use graph_files::Rows;
+use graph_rows::Rows;
+use near_lists::next_stamp;
 
 /// Searches the graph from the starts for what is near to the query. The scratch has the answer.
 ///

@@ -10,8 +10,8 @@ ghost use Rattle.ann_defs.specs.GreedySearch.{is_in, search_of, walk_in};
 
 use ann_defs::Near;
 use bin_files::Points;
-use graph_files::Rows;
-use lane_distance::dist;
+use graph_rows::Rows;
+use near_lists::near_to;
 use std::cmp::Ordering;
 
 /// Searches the graph over two slices: the search list stands at the front of `found`, in order, and the visited at the
@@ -95,11 +95,7 @@ fn offer_all(
 {
     let mut count = len;
     for id in ids {
-        let near = Near {
-            dist: dist(query, points.at(*id)),
-            id: *id,
-        };
-        count = offer(list, count, limit, near);
+        count = offer(list, count, limit, near_to(points, query, *id));
     }
     count
 }

@@ -3,7 +3,7 @@ ghost use Rattle.std.specs.Prelude.{◌≡◌, ◌+◌, ◌≤◌, IfOk, [], len
 ghost use Rattle.std.specs.Borrow.{sem};
 ghost use Rattle.beam_search.specs.Lending.{LendsRoom};
 
-use ann_defs::Near;
+use ann_defs::{MAX_BEAM, MAX_DEGREE, MAX_POINTS, Near};
 use ann_shelf::NoMemory;
 use std::alloc::Global;
 use std::marker::Model;
@@ -31,7 +31,7 @@ pub struct Scratch {
 
 impl Model for Scratch {
     ghost use Rattle.std.specs.Prelude.{◌≡◌, ◌+◌, ◌≤◌, length};
-    ghost use Rattle.beam_search.specs.Marks.{AreUpTo};
+    ghost use Rattle.near_lists.specs.Marks.{AreUpTo};
     ghost use Rattle.ann_defs.specs.GreedySearch.{walk_in};
     ghost use Rattle.beam_search.specs.Room.{Room};
 
@@ -47,16 +47,16 @@ impl Scratch {
     ///
     /// All memory is taken here. A refusal leaves nothing.
     pub fn new(alloc: Global, n: u32, beam: u32) -> Result<Scratch, NoMemory>
-        requires n { (1 ≤ n) × (n ≤ 4194304) }
-        requires beam { (1 ≤ beam) × (beam ≤ 1024) }
+        requires n { (1 ≤ n) × (n ≤ MAX_POINTS) }
+        requires beam { (1 ≤ beam) × (beam ≤ MAX_BEAM) }
         ensures { IfOk result (λ s. s ≡ record { count = n; beam = beam; last = record { found = []; visited = [] } }) }
     {
         let none = Near { dist: 0, id: 0 };
         let found = vec![in alloc; none; beam as usize]?;
         let visited = vec![in alloc; none; n as usize]?;
-        let room = vec![in alloc; none; n as usize + 128]?;
+        let room = vec![in alloc; none; n as usize + MAX_DEGREE as usize]?;
         let marks = vec![in alloc; 0u32; n as usize]?;
-        let todo = vec![in alloc; 0u32; 128]?;
+        let todo = vec![in alloc; 0u32; MAX_DEGREE as usize]?;
         Ok(Scratch {
             found,
             found_len: 0,
@@ -86,12 +86,13 @@ pub fn visited(scratch: &Scratch) -> &[Near]
     &scratch.visited[..scratch.visited_len]
 }
 
-/// Room for n + 128 entries, n being how many points the scratch is for. The entries are any.
+/// Room for as many entries as the scratch is for points, and for a longest row more. The entries are
+/// any.
 ///
 /// What is written there changes nothing else: the scratch stays as it is.
 pub fn room(scratch: &mut Scratch) -> &mut [Near]
     ensures* stays { sem 𝓛 (LendsRoom scratch.entry result) }
-    ensures len { length result.now ≡ scratch.old.count + 128 }
+    ensures len { length result.now ≡ scratch.old.count + MAX_DEGREE }
 {
     scratch.room.as_mut_slice()
 }

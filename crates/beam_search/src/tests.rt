@@ -2,15 +2,15 @@
 ghost use Rattle.std.specs.Prelude.{◌≡◌, ◌≤◌, IfOk, true, [], ◌∷◌, length, nat_lt};
 ghost use Rattle.std.specs.List.{All};
 ghost use Rattle.ann_defs.specs.Graph.{IsGraph};
-ghost use Rattle.graph_files.specs.Flat.{row_at};
+ghost use Rattle.graph_rows.specs.Flat.{row_at};
 
-use crate::ahead::touch;
 use crate::plain::walk_all;
 use crate::{Scratch, candidates, found, room, search, visited};
 use ann_defs::Near;
 use ann_shelf::NoMemory;
 use bin_files::Points;
-use graph_files::FlatGraph;
+use graph_rows::FlatGraph;
+use near_lists::touch;
 use std::alloc::Global;
 use std::test::Fail;
 

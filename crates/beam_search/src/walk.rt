@@ -1,15 +1,15 @@
 //! The loop of a search: the nearest that was found and not visited is visited, while there is one.
-ghost use Rattle.std.specs.Prelude.{◌≡◌, ℕ, true, ◌+◌, ◌-◌, ◌^◌, ◌<◌, ◌≤◌, length, take};
-ghost use Rattle.std.specs.List.{All};
+ghost use Rattle.std.specs.Prelude.{◌≡◌, ◌≢◌, ℕ, true, ◌+◌, ◌-◌, ◌^◌, ◌<◌, ◌≤◌, length, take};
+ghost use Rattle.std.specs.List.{All, AllWithin, HoldsAt};
 ghost use Rattle.ann_defs.specs.Distance.{dim_of};
 ghost use Rattle.ann_defs.specs.Graph.{IsGraph};
 ghost use Rattle.ann_defs.specs.GreedySearch.{search_of, walk_in};
-ghost use Rattle.beam_search.specs.Marks.{AreUpTo};
+ghost use Rattle.near_lists.specs.Marks.{mark_of, AreUpTo};
 
-use crate::lists::{first_left, offer_unseen};
 use ann_defs::Near;
 use bin_files::Points;
-use graph_files::Rows;
+use graph_rows::Rows;
+use near_lists::offer_unseen;
 
 /// Searches the graph over two slices: the search list stands at the front of `found`, in order, and the visited at the
 /// front of `visited`. The answers are how many were found and how many were visited.
@@ -59,4 +59,20 @@ pub fn walk_all<R: Rows>(
         next = first_left(&found[..len], marks, seen + 1, first.min(next + 1));
     }
     (len, count)
+}
+
+// The place of the first entry from `from` on whose id isn't marked with this stamp, or the length.
+fn first_left(list: &[Near], marks: &[u32], visited: u32, from: usize) -> usize
+    requires ids { All (λ x. x.id < length marks.now) list.now }
+    requires from { from ≤ length list.now }
+    ensures range { (from ≤ result) × (result ≤ length list.now) }
+    ensures before { AllWithin (λ x. mark_of marks.now x.id ≡ visited) list.now from result }
+    ensures here { result < length list.now → HoldsAt (λ x. mark_of marks.now x.id ≢ visited) list.now result }
+{
+    for i in from..list.len() {
+        if marks[list[i].id as usize] != visited {
+            return i;
+        }
+    }
+    list.len()
 }

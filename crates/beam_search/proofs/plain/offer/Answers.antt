@@ -1,6 +1,6 @@
 use Rattle.std.proofs.Common.{◌∙◌, sym, arith}
 use Rattle.ann_defs.specs.declared.near.Near.{Near}
-use Rattle.beam_search.proofs.Putting.{putting_less, putting_greater, putting_equal, putting_stays}
+use Rattle.near_lists.proofs.Putting.{putting_less, putting_greater, putting_equal, putting_stays}
 use Rattle.beam_search.proofs.plain.offer.Goals as goal
 use Rattle.beam_search.proofs.plain.offer.Goals.{in-Less, in-Greater}
 

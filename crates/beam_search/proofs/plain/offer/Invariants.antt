@@ -1,5 +1,5 @@
 use Rattle.std.proofs.Common.{take}
-use Rattle.beam_search.proofs.Putting.{IsPutting}
+use Rattle.near_lists.proofs.Putting.{IsPutting}
 use Rattle.beam_search.proofs.plain.offer.Given as goal
 
 abbrev pub invariant-loop-i : goal.invariant-loop-i

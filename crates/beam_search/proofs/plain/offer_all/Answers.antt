@@ -1,9 +1,7 @@
-use Rattle.std.proofs.Common.{◌≡◌, ◌∙◌, ap, ℕ, take, get_or, arith}
-use Rattle.ann_defs.specs.declared.near.Near.{Near}
-use Rattle.ann_defs.specs.Distance.{dist_of}
+use Rattle.std.proofs.Common.{◌≡◌, ◌∙◌, ap, take, arith}
 use Rattle.ann_defs.specs.Ordered.{put}
 use Rattle.ann_defs.specs.Nearness.{near_cmp, near_of, all_near}
-use Rattle.beam_search.proofs.Putting.{offered_more, rises_now}
+use Rattle.near_lists.proofs.Putting.{offered_more, rises_now}
 use Rattle.beam_search.proofs.plain.offer_all.Goals as goal
 
 pub offer-count-requires-clause-rises : goal.offer-count-requires-clause-rises
@@ -11,12 +9,9 @@ offer-count-requires-clause-rises c = rises_now c.args.limit _ (all_near c.args.
 
 pub loop-id-preserved : goal.loop-id-preserved
 loop-id-preserved c =
-    let id = get_or c.args.ids.now c.loop-id.id-index 0 in
-    let make : ℕ → Near = λ d. record { dist = d; id = id } in
-    let near : make c.dist.result ≡ near_of c.args.points.now.vectors c.args.query.now id = ap make (c.dist.ensures.value ∙ ap (dist_of c.args.query.now) c.at.ensures.value) in
     record {
       offered = offered_more (near_of c.args.points.now.vectors c.args.query.now) c.args.ids.now c.loop-id.id-index c.args.limit 0 _ _ _ (omega arith)
           c.loop-id.invariant.offered
-          (c.offer-count.ensures.list ∙ ap (λ x. take c.args.limit (put near_cmp (take c.loop-id.count c.loop-id.list) x)) near);
+          (c.offer-count.ensures.list ∙ ap (λ x. take c.args.limit (put near_cmp (take c.loop-id.count c.loop-id.list) x)) c.near_to.ensures);
       bound = c.offer-count.ensures.bound;
     }

@@ -5,7 +5,7 @@ use Rattle.std.specs.List.{All, IsDistinct}
 use Rattle.std.proofs.lemmas.Bool.{ltb-true}
 use Rattle.std.proofs.lemmas.List.Elements.{All-nil, All-cons, All-get_or}
 use Rattle.ann_defs.specs.Graph.{IsGraph}
-use Rattle.graph_files.specs.Flat.{Flat, with_row, row_at}
+use Rattle.graph_rows.specs.Flat.{Flat, with_row, row_at}
 use Rattle.beam_search.proofs.tests.rows.Goals as goal
 
 abbrev line : List (List ℕ)

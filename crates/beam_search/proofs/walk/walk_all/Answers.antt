@@ -6,7 +6,7 @@ use Rattle.ann_defs.specs.Ordered.{put}
 use Rattle.ann_defs.specs.Nearness.{near_cmp, all_near}
 use Rattle.ann_defs.specs.GreedySearch.{Walk, walk_in, start_of}
 use Rattle.ann_defs.proofs.SearchStates.{IsWalking, walking_none, walking_all}
-use Rattle.beam_search.specs.Marks.{AreVisited}
+use Rattle.near_lists.specs.Marks.{AreVisited}
 use Rattle.beam_search.proofs.Cursor.{IsCursor, cursor_none, cursor_more, next_none, visited_none, visited_marked, visited_seen, up_to_first, up_to_marked, up_to_seen}
 use Rattle.beam_search.proofs.Stepping.{p_held, p_below, count_room, row_below, settled_p, visited_p, walking_next, ids_next}
 use Rattle.beam_search.proofs.walk.walk_all.Goals as goal

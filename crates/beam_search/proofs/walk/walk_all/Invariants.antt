@@ -1,7 +1,7 @@
 use Rattle.std.proofs.Common.{◌≤◌, ◌+◌, ◌-◌, length, take}
 use Rattle.ann_defs.specs.GreedySearch.{walk_in, start_of}
 use Rattle.ann_defs.proofs.SearchStates.{IsWalking}
-use Rattle.beam_search.specs.Marks.{AreSettled, AreUpTo, AreVisited}
+use Rattle.near_lists.specs.Marks.{AreSettled, AreUpTo, AreVisited}
 use Rattle.beam_search.proofs.Cursor.{IsCursor}
 use Rattle.beam_search.proofs.walk.walk_all.Given as goal
 

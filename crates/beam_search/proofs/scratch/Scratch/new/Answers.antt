@@ -1,5 +1,5 @@
 use Rattle.std.proofs.Common.{◌≡◌, ℕ, zero, suc, ◌+◌, ◌≤◌, replicate, length, ap, sym, ◌∙◌, subst, arith}
-use Rattle.beam_search.specs.Marks.{mark_of, AreUpTo}
+use Rattle.near_lists.specs.Marks.{mark_of, AreUpTo}
 use Rattle.beam_search.proofs.scratch.Scratch.new.Goals as goal
 
 zeros : (n u : ℕ) → mark_of (replicate n 0) u ≤ 0

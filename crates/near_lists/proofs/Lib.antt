@@ -1,0 +1,6 @@
+pub mod Gathering
+pub mod Inserting
+pub mod Marking
+pub mod Putting
+pub mod Settling
+pub mod Taking

@@ -1,0 +1,63 @@
+//! Lists in order of nearness, at the front of a slice.
+ghost use Rattle.std.specs.Prelude.{◌≡◌, ◌+◌, ◌-◌, ◌<◌, ◌≤◌, ◌∷◌, ◌++◌, ◌==◌, ◌&&◌, ◌||◌, length, take, drop, slice_index_or};
+ghost use Rattle.std.specs.Ordering.{is_lt};
+ghost use Rattle.ann_defs.specs.Ordered.{put, Rises};
+ghost use Rattle.ann_defs.specs.Nearness.{near_cmp};
+
+use ann_defs::Near;
+
+/// Whether a comes before b.
+fn is_before(a: Near, b: Near) -> bool
+    ensures { result ≡ is_lt (near_cmp a b) }
+{
+    a.dist < b.dist || (a.dist == b.dist && a.id < b.id)
+}
+
+/// Puts x into its place among the first `len`, once, and keeps the nearest `limit`. The answers are how many are kept,
+/// and the place from which on entries may differ.
+///
+/// Where the list is full, x is compared with the last first, and mostly turned away by that. Else its place is looked
+/// up by halves, and what stands behind moves up by one.
+pub fn offer(list: &mut [Near], len: usize, limit: usize, x: Near) -> (usize, usize)
+    requires limit { limit ≤ length list.old }
+    requires len { len ≤ limit }
+    requires rises { Rises near_cmp (take len list.old) }
+    ensures list { take result.0 list.new ≡ take limit (put near_cmp (take len list.old) x) }
+    ensures bound { result.0 ≤ limit }
+    ensures grows { len ≤ result.0 }
+    ensures front { take result.1 list.new ≡ take result.1 list.old }
+    ensures first { result.1 ≤ len }
+{
+    if is_full(list, len, limit, x) {
+        return (len, len);
+    }
+    match list[..len].binary_search(&x) {
+        Ok(_) => (len, len),
+        Err(at) => (insert(list, len, limit, at, x), at),
+    }
+}
+
+// Whether the list is full of entries that come before x.
+fn is_full(list: &[Near], len: usize, limit: usize, x: Near) -> bool
+    requires limit { limit ≤ length list.now }
+    requires len { len ≤ limit }
+    ensures { result ≡ (len == limit && (len == 0 || is_lt (near_cmp (slice_index_or list.now (len - 1) x) x))) }
+{
+    len == limit && (len == 0 || is_before(list[len - 1], x))
+}
+
+// Inserts x at a place among the first `len`, and keeps the first `limit`. The answer is how many are kept.
+fn insert(list: &mut [Near], len: usize, limit: usize, at: usize, x: Near) -> usize
+    requires limit { limit ≤ length list.old }
+    requires len { len ≤ limit }
+    requires at { (at ≤ len) × (at < limit) }
+    ensures list { take result list.new ≡ take limit (take at list.old ++ x ∷ drop at (take len list.old)) }
+    ensures bound { result ≤ limit }
+    ensures grows { len ≤ result }
+    ensures front { take at list.new ≡ take at list.old }
+{
+    let kept = limit.min(len + 1);
+    list.copy_within(at..kept - 1, at + 1);
+    list[at] = x;
+    kept
+}
