@@ -1,22 +1,22 @@
 -- What is kept is apart, and covers what is not kept.
-use Rattle.std.proofs.Common.{◌≡◌, ◌≢◌, ℕ, zero, suc, ◌*◌, ◌<◌, ◌≤◌, Bool, true, false, List, [], ◌∷◌, length, get_or, refl, sym, ap, subst, inl, inr, arith}
+use Rattle.std.proofs.Common.{◌≡◌, ◌≢◌, ℕ, zero, suc, ◌*◌, ◌<◌, ◌≤◌, Bool, true, false, List, [], ◌∷◌, length, get_or, refl, sym, ap, ◌∙◌, subst, inl, inr, arith}
 use Rattle.std.specs.Prelude.{◌⊎◌}
 use Rattle.std.specs.List.{filter, All, Contains}
 use Rattle.std.specs.List.Sorted.{IsPermutation}
-use Rattle.std.proofs.lemmas.Bool.{ltb-true, ltb-false}
 use Rattle.std.proofs.lemmas.List.{get_or-map, length-map}
+use Rattle.std.proofs.lemmas.List.Elements.{All-map}
 use Rattle.std.proofs.lemmas.List.Sorted.{All-permutation, IsPermutation-sym, Contains-permutation}
 use Rattle.ann_defs.specs.declared.near.Near.{Near}
 use Rattle.ann_defs.specs.Distance.{dist_of, point}
 use Rattle.ann_defs.specs.Ordered.{Has}
 use Rattle.ann_defs.specs.Nearness.{near_of, ids_of}
 use Rattle.ann_defs.specs.Graph.{IsGoodRow}
-use Rattle.ann_defs.specs.RobustPrune.{kept, stays, pruned_row}
+use Rattle.ann_defs.specs.RobustPrune.{kept, stays, spares, pruned_row}
 use Rattle.ann_defs.proofs.Order.{All_has, Contains-from_has, has_from_Contains, has-map}
 use Rattle.ann_defs.proofs.Members.{all_from_has, has-mapped, has-filter, filter_has}
 use Rattle.ann_defs.proofs.GoodRows.{kept_has, prune_good}
 use Rattle.robust_prune.specs.Candidates.{AreCandidates}
-use Rattle.robust_prune.specs.Pruned.{Spares, Covers, IsPruned}
+use Rattle.robust_prune.specs.Pruned.{leaves, IsPruned}
 
 get_has : (xs : List Near) (j : ℕ) (d : Near) → j < length xs → Has xs (get_or xs j d)
 get_has [] j d h = absurd (omega arith)
@@ -73,7 +73,14 @@ module _ (points : List (List ℕ)) (p num den r : ℕ) (cands sorted : List Nea
       let from = has-map (λ (y : Near). y.id) (kept beside r sorted) u h in
       Contains-from_has (ids_of cands) u (subst (Has (ids_of cands)) from.2 (has-mapped (λ (y : Near). y.id) cands from.0 (back from.0 (kept_has beside r sorted from.0 from.1)))))
 
-  apart : (i j : ℕ) → i < j → j < length row → Spares points p num den (get_or row i 0) (get_or row j 0)
+  right_dist : (z : Near) → Has sorted z → z.dist ≡ dist_of (point points p) (point points z.id)
+  right_dist z h = ap (λ (y : Near). y.dist) (right z h)
+
+  -- whether an id stays beside another is whether that one leaves it
+  left_by : (c : ℕ) (z : Near) → Has sorted z → beside c z ≡ leaves points p num den c z.id
+  left_by c z h = ap (spares num den (dist_of (point points c) (point points z.id))) (right_dist z h)
+
+  apart : (i j : ℕ) → i < j → j < length row → leaves points p num den (get_or row i 0) (get_or row j 0) ≡ true
   apart i j h k =
       let none : Near = record { dist = 0; id = 0 } in
       let all = kept beside r sorted in
@@ -84,37 +91,37 @@ module _ (points : List (List ℕ)) (p num den r : ℕ) (cands sorted : List Nea
       let x = get_or all j none in
       let c_is : c.id ≡ get_or row i 0 = sym (get_or-map (λ (y : Near). y.id) all i none 0 early) in
       let x_is : x.id ≡ get_or row j 0 = sym (get_or-map (λ (y : Near). y.id) all j none 0 late) in
-      let dist_is : x.dist ≡ dist_of (point points p) (point points x.id) = ap (λ (y : Near). y.dist) (right x (kept_has beside r sorted x (get_has all j none late))) in
-      let spares : den * x.dist < num * dist_of (point points c.id) (point points x.id) = ltb-true _ _ (kept_apart beside r sorted none i j h late) in
-      let spares' : Spares points p num den c.id x.id = subst (λ d. den * d < num * dist_of (point points c.id) (point points x.id)) dist_is spares in
-      subst (λ u. Spares points p num den u (get_or row j 0)) c_is (subst (λ u. Spares points p num den c.id u) x_is spares')
+      sym (λ i. leaves points p num den (c_is i) (x_is i)) ∙ sym (left_by c.id x (kept_has beside r sorted x (get_has all j none late))) ∙ kept_apart beside r sorted none i j h late
 
-  covers : (u : ℕ) (z : Near) → z.id ≡ u → Has sorted z → length row < r → Contains row u ⊎ ((c : ℕ) × Contains row c × Covers points p num den c u)
+  covers : (u : ℕ) (z : Near) → z.id ≡ u → Has sorted z → length row < r → Contains row u ⊎ ((c : ℕ) × Contains row c × (leaves points p num den c u ≡ false))
   covers u z e m room =
       let all = kept beside r sorted in
       let len : length row ≡ length all = length-map all (λ (y : Near). y.id) in
       let in_row : (y : Near) → Has all y → Contains row y.id = λ y h. Contains-from_has row y.id (has-mapped (λ (y : Near). y.id) all y h) in
-      subst (λ u. Contains row u ⊎ ((c : ℕ) × Contains row c × Covers points p num den c u)) e
-      (elim (kept_covers beside r sorted z m (omega arith)) as (λ _. Contains row z.id ⊎ ((c : ℕ) × Contains row c × Covers points p num den c z.id)) [
+      subst (λ u. Contains row u ⊎ ((c : ℕ) × Contains row c × (leaves points p num den c u ≡ false))) e
+      (elim (kept_covers beside r sorted z m (omega arith)) as (λ _. Contains row z.id ⊎ ((c : ℕ) × Contains row c × (leaves points p num den c z.id ≡ false))) [
         | inl k ↦ inl (in_row z k)
-        | inr k ↦ inr (
-          k.0.id,
-          in_row k.0 k.1,
-          subst (λ d. num * dist_of (point points k.0.id) (point points z.id) ≤ den * d) (ap (λ (y : Near). y.dist) (right z m)) (ltb-false _ _ k.2),
-        )
+        | inr k ↦ inr (k.0.id, in_row k.0 k.1, sym (left_by k.0.id z m) ∙ k.2)
       ])
 
-  covered : length row < r → All (λ x. Contains row x ⊎ ((c : ℕ) × Contains row c × Covers points p num den c x)) (ids_of cands)
-  covered room = all_from_has (λ x. Contains row x ⊎ ((c : ℕ) × Contains row c × Covers points p num den c x)) (ids_of cands) (λ u m.
+  covered : length row < r → All (λ x. Contains row x ⊎ ((c : ℕ) × Contains row c × (leaves points p num den c x ≡ false))) (ids_of cands)
+  covered room = all_from_has (λ x. Contains row x ⊎ ((c : ℕ) × Contains row c × (leaves points p num den c x ≡ false))) (ids_of cands) (λ u m.
       let from = has-map (λ (y : Near). y.id) cands u m in
       covers u from.0 from.2 (forth from.0 from.1) room)
 
   pub pruned : (out : List ℕ) → out ≡ row → IsPruned points p num den r (ids_of cands) out
   pruned out e = subst (IsPruned points p num den r (ids_of cands)) (sym e) (record { among = among; apart = apart; covered = covered })
 
+-- the ids of candidates are points, and none is p
+pub candidates_inside : (points : List (List ℕ)) (p : ℕ) (cands : List Near) → AreCandidates points p cands → All (λ u. u < length points) (ids_of cands)
+candidates_inside points p cands are = All-map (λ u. u < length points) (λ (y : Near). y.id) cands are.in_range
+
+pub candidates_others : (points : List (List ℕ)) (p : ℕ) (cands : List Near) → AreCandidates points p cands → All (λ u. u ≢ p) (ids_of cands)
+candidates_others points p cands are = All-map (λ u. u ≢ p) (λ (y : Near). y.id) cands are.others
+
 -- a prune of candidates gives a good row
 pub pruned_good : (points : List (List ℕ)) (p num den r : ℕ) (cands : List Near) (out : List ℕ) → AreCandidates points p cands → out ≡ pruned_row points p (ids_of cands) num den r → IsGoodRow (length points) r p out
 pruned_good points p num den r cands out are e =
     subst (IsGoodRow (length points) r p) (sym e) (prune_good points p (ids_of cands) num den r (length points)
-    (λ u h. let from = has-map (λ (y : Near). y.id) cands u h in subst (λ u. u < length points) from.2 (All_has (λ x. x.id < length points) cands from.0 are.in_range from.1))
-    (λ u h. let from = has-map (λ (y : Near). y.id) cands u h in subst (λ u. u ≢ p) from.2 (All_has (λ x. x.id ≢ p) cands from.0 are.others from.1)))
+    (λ u h. All_has (λ v. v < length points) (ids_of cands) u (candidates_inside points p cands are) h)
+    (λ u h. All_has (λ v. v ≢ p) (ids_of cands) u (candidates_others points p cands are) h))

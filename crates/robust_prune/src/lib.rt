@@ -6,9 +6,13 @@
 //! the set of candidates alone.
 #![tactic(auto)]
 
+mod nearest;
 mod pruning;
+mod robust;
 #[cfg(test)]
 mod tests;
 
 pub use ann_defs::Alpha;
-pub use pruning::prune;
+pub use nearest::NearestPrune;
+pub use pruning::Pruning;
+pub use robust::{RobustPrune, prune};

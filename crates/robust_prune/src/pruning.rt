@@ -1,90 +1,53 @@
-//! RobustPrune over candidates that are sorted first.
-ghost use Rattle.std.specs.Prelude.{◌≡◌, ◌<◌, ◌≤◌, length, take, drop};
-ghost use Rattle.std.specs.List.{All, list_all};
+//! What prunes the candidates of a point.
+ghost use Rattle.std.specs.Prelude.{◌≡◌, ◌≢◌, ℕ, ◌<◌, ◌≤◌, List, length, take, drop};
+ghost use Rattle.std.specs.List.{All};
 ghost use Rattle.std.specs.List.Sorted.{IsPermutation};
 ghost use Rattle.ann_defs.specs.Nearness.{ids_of};
 ghost use Rattle.ann_defs.specs.Graph.{IsGoodRow};
-ghost use Rattle.ann_defs.specs.RobustPrune.{stays, kept, pruned_row};
+ghost use Rattle.ann_defs.specs.Laws.{AreAlike};
 ghost use Rattle.robust_prune.specs.Candidates.{AreCandidates};
-ghost use Rattle.robust_prune.specs.Pruned.{IsPruned};
 
-use ann_defs::{Alpha, Near};
+use ann_defs::Near;
 use bin_files::Points;
-use lane_distance::dist;
 
-/// Writes the row of point `p` to the front of `out`, nearest first, and answers how many ids it has.
+/// A rule by which the candidates of a point become its row: which of them, and in which order.
 ///
-/// The candidates may come in any order, each with its squared distance to `p`, and are put in another one. Of those
-/// that are left the nearest is kept (of two as near the one of smaller id), and every other one is removed whose
-/// squared distance to the kept one, times `num`, is at most `den` times that to `p`. This goes on until `degree` ids
-/// are kept or no candidate is left. It is DiskANN, Algorithm 2, where the factor on squared distances is the square of
-/// the paper's.
-///
-/// It refuses nothing and takes no memory. Behind the row `out` stays as it was. Its cost is at most `degree` distances
-/// for each candidate, after a sort.
-pub fn prune(
-    points: &Points,
-    p: u32,
-    cands: &mut [Near],
-    alpha: Alpha,
-    degree: u32,
-    out: &mut [u32],
-) -> usize
-    requires p { p < length points.now.vectors }
-    requires cands { AreCandidates points.now.vectors p cands.old }
-    requires room { degree ≤ length out.old }
-    ensures row { take result out.new ≡ pruned_row points.now.vectors p (ids_of cands.old) alpha.num alpha.den degree }
-    ensures rest { drop result out.new ≡ drop result out.old }
-    ensures bound { result ≤ degree }
-    ensures good { IsGoodRow (length points.now.vectors) degree p (take result out.new) }
-    ensures pruned { IsPruned points.now.vectors p alpha.num alpha.den degree (ids_of cands.old) (take result out.new) }
-    ensures cands { IsPermutation cands.old cands.new }
-{
-    cands.sort_unstable();
-    keep(points, cands, alpha, degree, out)
-}
+/// The row of a point depends on the set of candidates alone. Workers share a rule; it takes no memory.
+pub trait Pruning: Sync {
+    // the vectors of the points
+    ghost vectors: { Self → List (List ℕ) };
 
-// Keeps of the candidates, in their order, those that stay beside all that are kept before.
-fn keep(points: &Points, cands: &[Near], alpha: Alpha, degree: u32, out: &mut [u32]) -> usize
-    requires ids { All (λ x. x.id < length points.now.vectors) cands.now }
-    requires room { degree ≤ length out.old }
-    ensures kept { take result out.new ≡ ids_of (kept (stays points.now.vectors alpha.num alpha.den) degree cands.now) }
-    ensures rest { drop result out.new ≡ drop result out.old }
-    ensures bound { result ≤ degree }
-{
-    let mut len = 0;
-    for candidate in cands {
-        if len == degree as usize {
-            break;
-        }
-        if stays_beside_all(points, alpha, &out[..len], *candidate) {
-            out[len] = candidate.id;
-            len += 1;
-        }
-    }
-    len
-}
+    // the greatest length of a row
+    ghost most: { Self → ℕ };
 
-// Whether the candidate stays beside each id of the row.
-fn stays_beside_all(points: &Points, alpha: Alpha, row: &[u32], candidate: Near) -> bool
-    requires row { All (λ c. c < length points.now.vectors) row.now }
-    requires candidate { candidate.id < length points.now.vectors }
-    ensures { result ≡ list_all (λ c. stays points.now.vectors alpha.num alpha.den c candidate) row.now }
-{
-    for neighbour in row {
-        if !stays_beside(points, alpha, *neighbour, candidate) {
-            return false;
-        }
-    }
-    true
-}
+    // the row of a point, of a set of ids
+    ghost pruned: { Self → ℕ → List ℕ → List ℕ };
 
-// Whether the candidate stays beside an id.
-fn stays_beside(points: &Points, alpha: Alpha, neighbour: u32, candidate: Near) -> bool
-    requires neighbour { neighbour < length points.now.vectors }
-    requires candidate { candidate.id < length points.now.vectors }
-    ensures { result ≡ stays points.now.vectors alpha.num alpha.den neighbour candidate }
-{
-    let apart = dist(points.at(neighbour), points.at(candidate.id));
-    (alpha.den as u64 * candidate.dist as u64) < alpha.num as u64 * apart as u64
+    /// The points whose candidates are pruned.
+    fn points(&self) -> &Points
+        ensures { result.now.vectors ≡ vectors self.now };
+
+    /// The greatest length of a row.
+    fn degree(&self) -> u32
+        ensures { result ≡ most self.now };
+
+    /// Writes the row of point `p` to the front of `out`, and answers how many ids it has.
+    ///
+    /// The candidates may come in any order, each with its squared distance to `p`, and are put in another one. It
+    /// refuses nothing. Behind the row `out` stays as it was.
+    fn prune(&self, p: u32, cands: &mut [Near], out: &mut [u32]) -> usize
+        requires p { p < length (vectors self.now) }
+        requires cands { AreCandidates (vectors self.now) p cands.old }
+        requires room { most self.now ≤ length out.old }
+        ensures row { take result out.new ≡ pruned self.now p (ids_of cands.old) }
+        ensures rest { drop result out.new ≡ drop result out.old }
+        ensures bound { result ≤ most self.now }
+        ensures good { IsGoodRow (length (vectors self.now)) (most self.now) p (take result out.new) }
+        ensures cands { IsPermutation cands.old cands.new };
+
+    // of points other than p comes a good row
+    ghost good: { (s : Self) (p : ℕ) (set : List ℕ) → All (λ u. u < length (vectors s)) set → All (λ u. u ≢ p) set → IsGoodRow (length (vectors s)) (most s) p (pruned s p set) };
+
+    // only the members of the set count
+    ghost alike: { (s : Self) (p : ℕ) (xs ys : List ℕ) → AreAlike xs ys → pruned s p xs ≡ pruned s p ys };
 }

@@ -1,10 +1,4 @@
-pub mod Ascending
-pub mod Differing
-pub mod Padding
-pub mod Sources
-pub mod MergeFacts
 pub mod Plans
-pub mod UpTo
-pub mod Merging
+pub mod NewRowFacts
 pub mod Stepping
 pub mod NextBatch

@@ -4,14 +4,15 @@ use Rattle.std.specs.Prelude.{◌↔◌, nat_lt, IsSome, IsNone, IfSome, is_some
 use Rattle.std.proofs.lemmas.Bool.{ltb-true, lt-ltb, ltb-false, le-ltb, true≢false}
 use Rattle.ann_defs.specs.BatchInsert.{bound_at, total_of}
 use Rattle.beam_search.specs.Room.{Room}
-use Rattle.graph_files.specs.Flat.{Flat}
+use Rattle.graph_rows.specs.Flat.{Flat}
 use Rattle.prefix_batches.specs.Progress.{Progress}
 use Rattle.steal_pool.specs.Work.{AllServe}
 use Rattle.steal_pool.specs.declared.post.Post.{Post}
 use Rattle.vamana_build.specs.declared.settings.VamanaSettings.{VamanaSettings}
-use Rattle.vamana_build.specs.Builds.{batch_cap, batches_of, start_of}
+use Rattle.vamana_build.specs.Builds.{batch_cap, batches_of, order_of, start_of}
 use Rattle.vamana_build.specs.Building.{next_of, IsBuilt}
-use Rattle.vamana_build.specs.Changes.{Change, change_at, put_all}
+use Rattle.batch_insert.specs.Changes.{put_all}
+use Rattle.vamana_build.specs.Changes.{Change, change_at}
 use Rattle.beam_search.specs.Serving.{Serves}
 use Rattle.vamana_build.proofs.Stepping.{change_leads}
 
@@ -72,13 +73,13 @@ module _ (points : List (List ℕ)) (s : VamanaSettings) where
       (told.0, told.1, here.fits)
 
   -- one batch more
-  pub stepped : (k : ℕ) (graph graph' : Flat) (batches batches' : Progress) (next next' : Option (ℕ × ℕ)) (posts posts' : List (Post Room)) (b : ℕ × ℕ) (change : Change) → start_of points s < n → IsBuilt points s k graph batches next posts → next ≡ Some b → change ≡ change_at points s k → graph' ≡ put_all graph change.rows → IsNext (k + 1) batches batches' next' → AllServe (Serves n s.beam) posts' → length posts' ≡ length posts → IsBuilt points s (k + 1) graph' batches' next' posts'
-  stepped k graph graph' batches batches' next next' posts posts' b change starts built is c g more serve count =
+  pub stepped : (k : ℕ) (graph graph' : Flat) (batches batches' : Progress) (next next' : Option (ℕ × ℕ)) (posts posts' : List (Post Room)) (b : ℕ × ℕ) (change : Change) → start_of points s < n → length (order_of points s) ≡ n → IsBuilt points s k graph batches next posts → next ≡ Some b → change ≡ change_at points s k → graph' ≡ put_all graph change.rows → IsNext (k + 1) batches batches' next' → AllServe (Serves n s.beam) posts' → length posts' ≡ length posts → IsBuilt points s (k + 1) graph' batches' next' posts'
+  stepped k graph graph' batches batches' next next' posts posts' b change starts whole built is c g more serve count =
       let less = some_left k next b built.next_is is in
       let done : min (k + 1) total ≡ k + 1 = omega (arith, less) in
       let told = next_is (k + 1) batches batches' next' (omega (arith, less)) (built.batches_are ∙ ap at done) more in
       record {
-        graph_is = g ∙ (λ i. put_all (built.graph_is i) (c i).rows) ∙ change_leads points s starts k;
+        graph_is = g ∙ (λ i. put_all (built.graph_is i) (c i).rows) ∙ change_leads points s starts k whole less;
         within = omega (arith, less);
         few = built.few;
         batches_are = told.1;

@@ -1,8 +1,9 @@
 -- A build in work.
+use Rattle.ann_defs.specs.declared.limits.TheConstants.{MAX_POINTS, MAX_WORKERS}
 use Rattle.std.specs.Prelude.{◌≡◌, ℕ, ◌+◌, ◌≤◌, ◌<◌, if◌then◌else◌, nat_lt, min, Option, Some, None, IfSome, List, length}
 use Rattle.steal_pool.specs.Work.{AllServe}
 use Rattle.steal_pool.specs.declared.post.Post.{Post}
-use Rattle.graph_files.specs.Flat.{Flat}
+use Rattle.graph_rows.specs.Flat.{Flat}
 use Rattle.ann_defs.specs.BatchInsert.{bound_at}
 use Rattle.prefix_batches.specs.Progress.{Progress}
 use Rattle.vamana_build.specs.declared.settings.VamanaSettings.{VamanaSettings}
@@ -28,9 +29,9 @@ next_of points s k =
 pub record IsBuilt (points : List (List ℕ)) (s : VamanaSettings) (k : ℕ) (graph : Flat) (batches : Progress) (next : Option (ℕ × ℕ)) (posts : List (Post Room)) : Type 0 where
   pub graph_is : graph ≡ graph_at points s k
   pub within : k ≤ batches_of points s
-  pub few : batches_of points s ≤ 4194304
+  pub few : batches_of points s ≤ MAX_POINTS
   pub batches_are : batches ≡ record { n = length points; cap = batch_cap points s; done = min (k + 1) (batches_of points s) }
   pub next_is : next ≡ next_of points s k
   pub next_fits : IfSome next (λ b. (b.0 < b.1) × (b.1 ≤ length points))
   pub serve : AllServe (Serves (length points) s.beam) posts
-  pub workers : (1 ≤ length posts) × (length posts ≤ 64)
+  pub workers : (1 ≤ length posts) × (length posts ≤ MAX_WORKERS)

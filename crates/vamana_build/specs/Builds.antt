@@ -1,7 +1,7 @@
 -- What a point set and settings decide: the order, the start, the batches and the graph after each of them.
 use Rattle.std.specs.Prelude.{ℕ, List, length, slice_index}
 use Rattle.ann_defs.specs.BatchInsert.{Build, cap_of, total_of, graph_after}
-use Rattle.graph_files.specs.Flat.{Flat}
+use Rattle.graph_rows.specs.Flat.{Flat}
 use Rattle.seeded_order.specs.Order.{insertion_order}
 use Rattle.vamana_build.specs.declared.settings.VamanaSettings.{VamanaSettings}
 
@@ -21,9 +21,9 @@ batch_cap points s = cap_of (length points) s.cap
 abbrev pub batches_of : List (List ℕ) → VamanaSettings → ℕ
 batches_of points s = total_of (length points) (batch_cap points s)
 
--- what decides the rows of a batch
+-- what decides the rows of a batch; the order is gone through once
 abbrev pub build_of : List (List ℕ) → VamanaSettings → Build
-build_of points s = record { points = points; start = start_of points s; beam = s.beam; num = s.alpha.num; den = s.alpha.den; degree = s.degree }
+build_of points s = record { points = points; start = start_of points s; beam = s.beam; num = s.alpha.num; den = s.alpha.den; degree = s.degree; passes = 1 }
 
 -- the rows after k batches
 abbrev pub rows_at : List (List ℕ) → VamanaSettings → ℕ → List (List ℕ)

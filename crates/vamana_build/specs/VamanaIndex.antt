@@ -8,7 +8,7 @@
 -- the order, which is the medoid only where the settings say so.
 use Rattle.std.specs.Prelude.{ℕ, List, length}
 use Rattle.ann_defs.specs.Distance.{dim_of}
-use Rattle.graph_files.specs.Index.{Contents, flat_contents}
+use Rattle.graph_rows.specs.Index.{Contents, flat_contents}
 use Rattle.vamana_build.specs.declared.settings.VamanaSettings.{VamanaSettings}
 use Rattle.vamana_build.specs.Builds.{start_of, rows_at, batches_of}
 

@@ -1,41 +1,30 @@
 //! What a batch changes.
-ghost use Rattle.std.specs.Prelude.{◌≡◌, ◌+◌, ◌<◌, ◌≤◌, length};
-ghost use Rattle.vamana_build.specs.Changes.{changed_row, put_all};
-ghost use Rattle.vamana_build.specs.ChangedRows.{rows_in};
+ghost use Rattle.std.specs.Prelude.{◌≡◌, ◌<◌, length};
+ghost use Rattle.batch_insert.specs.Changes.{put_all};
+ghost use Rattle.vamana_build.specs.Changes.{changed_row};
 
-use graph_files::FlatGraph;
+use batch_insert::ChangedRows;
+use graph_rows::FlatGraph;
 use std::marker::Model;
-
-/// An id with its new row.
-#[derive(Drop)]
-pub(crate) struct ChangedRow {
-    pub id: u32,
-    pub row: Vec<u32>,
-}
 
 /// The rows that one batch changes: each id whose row differs after the batch, in ascending order, with its new row.
 #[derive(Drop)]
 pub struct BatchChange {
     batch: u32,
-    rows: Vec<ChangedRow>,
+    rows: ChangedRows,
 }
 
 impl Model for BatchChange {
-    ghost use Rattle.std.specs.Prelude.{◌^◌, ◌<◌, length};
     ghost use Rattle.vamana_build.specs.Changes.{Change};
-    ghost use Rattle.vamana_build.specs.ChangedRows.{rows_in};
 
     ghost Value = { Change };
 
-    ghost view = { λ c. record { batch = c.batch; rows = rows_in c.rows.items } };
-
-    ghost invariant = { λ c. length c.rows.items < 2 ^ 32 };
+    ghost view = { λ c. record { batch = c.batch; rows = c.rows } };
 }
 
 impl BatchChange {
-    pub(crate) fn new(batch: u32, rows: Vec<ChangedRow>) -> BatchChange
-        requires { length rows.items ≤ 4194304 }
-        ensures { result ≡ record { batch = batch; rows = rows_in rows.items } }
+    pub(crate) fn new(batch: u32, rows: ChangedRows) -> BatchChange
+        ensures { result ≡ record { batch = batch; rows = rows } }
     {
         BatchChange { batch, rows }
     }
@@ -51,7 +40,7 @@ impl BatchChange {
     pub fn len(&self) -> u32
         ensures { result ≡ length self.now.rows }
     {
-        self.rows.len() as u32
+        self.rows.len()
     }
 
     /// The id of changed row `j`. Ids ascend.
@@ -59,7 +48,7 @@ impl BatchChange {
         requires { j < length self.now.rows }
         ensures { result ≡ (changed_row self.now j).0 }
     {
-        self.rows[j as usize].id
+        self.rows.id(j)
     }
 
     /// Changed row `j`, as it is after the batch.
@@ -67,7 +56,7 @@ impl BatchChange {
         requires { j < length self.now.rows }
         ensures { result.now ≡ (changed_row self.now j).1 }
     {
-        self.rows[j as usize].row.as_slice()
+        self.rows.row(j)
     }
 
     /// Puts each changed row into a graph. A row whose id the graph doesn't hold, or which is longer than the graph's
@@ -75,10 +64,6 @@ impl BatchChange {
     pub fn put_into(&self, graph: &mut FlatGraph)
         ensures { graph.new ≡ put_all graph.old self.now.rows }
     {
-        for changed in &self.rows {
-            if changed.id < graph.count() && changed.row.len() <= graph.width() as usize {
-                graph.set_row(changed.id, changed.row.as_slice());
-            }
-        }
+        self.rows.put_into(graph);
     }
 }

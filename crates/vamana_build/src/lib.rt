@@ -6,14 +6,9 @@
 #![tactic(auto)]
 
 mod batch;
-mod block;
 mod change;
-mod difference;
-mod ids;
-mod last_rows;
-mod merged_rows;
+mod merges;
 mod new_rows;
-mod overlay;
 mod plan;
 mod posts;
 mod row;

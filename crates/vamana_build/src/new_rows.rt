@@ -1,19 +1,18 @@
 //! The new rows of a batch, as tasks.
 ghost use Rattle.std.specs.Prelude.{◌≡◌, ◌+◌, ◌<◌, ◌≤◌, length};
 ghost use Rattle.std.specs.List.{All};
-ghost use Rattle.std.specs.Ordering.{nat_cmp};
 ghost use Rattle.std.proofs.Props.{props};
 ghost use Rattle.ann_defs.specs.Graph.{AreGoodRows};
-ghost use Rattle.ann_defs.specs.Ordered.{ordered};
+ghost use Rattle.ann_defs.specs.Ordered.{Ascends};
 ghost use Rattle.vamana_build.specs.Builds.{build_of};
 ghost use Rattle.beam_search.specs.Serving.{Serves};
 ghost use Rattle.vamana_build.specs.Wanted.{new_blocks};
 
-use crate::block::seal;
 use crate::plan::Plan;
 use crate::row::new_row;
+use batch_insert::seal;
 use beam_search::Scratch;
-use graph_files::FlatGraph;
+use graph_rows::FlatGraph;
 use steal_pool::Work;
 
 /// A task for each point of a batch: its new row in the graph before the batch. The points are in ascending order.
@@ -24,7 +23,7 @@ pub(crate) struct NewRows<'a> {
     pub batch: &'a [u32],
     ghost good: { AreGoodRows (length plan.now.points.now.vectors) plan.now.settings.degree graph.now.rows } by { Prim.hlevel props },
     ghost batch_fits: { All (λ p. p < length plan.now.points.now.vectors) batch.now },
-    ghost sorted: { batch.now ≡ ordered nat_cmp batch.now },
+    ghost ascend: { Ascends batch.now },
     ghost few: { length batch.now ≤ length plan.now.points.now.vectors },
 }
 

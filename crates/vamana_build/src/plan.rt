@@ -1,5 +1,6 @@
 //! What is decided before the first batch.
 ghost use Rattle.std.specs.Prelude.{◌≡◌, ◌+◌, ◌*◌, ◌<◌, ◌≤◌, length, IfOk, IfSome};
+ghost use Rattle.ann_defs.specs.declared.limits.TheConstants.{MAX_BEAM, MAX_DEGREE, MAX_POINTS, MAX_WORDS};
 ghost use Rattle.std.specs.List.{All};
 ghost use Rattle.ann_defs.specs.BatchInsert.{cap_of};
 ghost use Rattle.vamana_build.specs.Builds.{order_of, start_of, batch_cap};
@@ -20,15 +21,15 @@ pub struct Plan<'p> {
     pub order: Vec<u32>,
     pub cap: u32,
     pub settings: VamanaSettings,
-    pub ghost count: { (1 ≤ length points.now.vectors) × (length points.now.vectors ≤ 4194304) },
-    pub ghost degree: { (1 ≤ settings.degree) × (settings.degree ≤ 128) },
-    pub ghost beam: { (1 ≤ settings.beam) × (settings.beam ≤ 1024) },
-    pub ghost words: { length points.now.vectors * (settings.degree + 1) ≤ 134217728 },
+    pub ghost count: { (1 ≤ length points.now.vectors) × (length points.now.vectors ≤ MAX_POINTS) },
+    pub ghost degree: { (1 ≤ settings.degree) × (settings.degree ≤ MAX_DEGREE) },
+    pub ghost beam: { (1 ≤ settings.beam) × (settings.beam ≤ MAX_BEAM) },
+    pub ghost words: { length points.now.vectors * (settings.degree + 1) ≤ MAX_WORDS },
     pub ghost ordered: { order.items ≡ order_of points.now.vectors settings },
     pub ghost whole: { length order.items ≡ length points.now.vectors },
     pub ghost inside: { All (λ p. p < length points.now.vectors) order.items },
     pub ghost capped: { cap ≡ batch_cap points.now.vectors settings },
-    pub ghost cap_fits: { (1 ≤ cap) × (cap ≤ 4194304) },
+    pub ghost cap_fits: { (1 ≤ cap) × (cap ≤ MAX_POINTS) },
 }
 
 impl<'p> Plan<'p> {
@@ -41,10 +42,10 @@ impl<'p> Plan<'p> {
         points: &'p Points,
         settings: VamanaSettings,
     ) -> Result<Plan<'p>, NoMemory>
-        requires degree { (1 ≤ settings.degree) × (settings.degree ≤ 128) }
-        requires beam { (1 ≤ settings.beam) × (settings.beam ≤ 1024) }
-        requires cap { IfSome settings.cap (λ cap. (1 ≤ cap) × (cap ≤ 4194304)) }
-        requires words { length points.now.vectors * (settings.degree + 1) ≤ 134217728 }
+        requires degree { (1 ≤ settings.degree) × (settings.degree ≤ MAX_DEGREE) }
+        requires beam { (1 ≤ settings.beam) × (settings.beam ≤ MAX_BEAM) }
+        requires cap { IfSome settings.cap (λ cap. (1 ≤ cap) × (cap ≤ MAX_POINTS)) }
+        requires words { length points.now.vectors * (settings.degree + 1) ≤ MAX_WORDS }
         ensures points { IfOk result (λ p. p.points.now ≡ points.now) }
         ensures settings { IfOk result (λ p. p.settings ≡ settings) }
     {
@@ -75,11 +76,11 @@ impl<'p> Plan<'p> {
 
 // The greatest number of points in a batch.
 fn cap_for(n: u32, cap: Option<u32>) -> u32
-    requires points { n ≤ 4194304 }
-    requires cap { IfSome cap (λ cap. (1 ≤ cap) × (cap ≤ 4194304)) }
+    requires points { n ≤ MAX_POINTS }
+    requires cap { IfSome cap (λ cap. (1 ≤ cap) × (cap ≤ MAX_POINTS)) }
     ensures value { result ≡ cap_of n cap }
     ensures some { 1 ≤ result }
-    ensures bound { result ≤ 4194304 }
+    ensures bound { result ≤ MAX_POINTS }
 {
     match cap {
         Some(cap) => cap,

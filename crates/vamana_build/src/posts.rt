@@ -4,10 +4,11 @@ ghost use Rattle.steal_pool.specs.Work.{AllServe};
 ghost use Rattle.beam_search.specs.Serving.{Serves};
 
 use crate::plan::Plan;
+use ann_defs::MAX_WORKERS;
 use ann_shelf::NoMemory;
 use beam_search::Scratch;
 use std::alloc::Global;
-use steal_pool::Post;
+use steal_pool::{Post, posts_of};
 
 /// A post for each worker, with a scratch that serves the searches of the plan.
 pub(crate) fn posts_for(
@@ -15,14 +16,11 @@ pub(crate) fn posts_for(
     plan: &Plan,
     workers: u32,
 ) -> Result<Vec<Post<Scratch>>, NoMemory>
-    requires { workers ≤ 64 }
+    requires { workers ≤ MAX_WORKERS }
     ensures count { IfOk result (λ v. length v.items ≡ workers) }
     ensures serve { IfOk result (λ v. AllServe (Serves (length plan.now.points.now.vectors) plan.now.settings.beam) v.items) }
 {
-    let mut posts = Vec::with_capacity(alloc, workers as usize)?;
-    for _ in 0..workers {
-        let scratch = Scratch::new(alloc, plan.points.count(), plan.settings.beam)?;
-        posts.push(Post::new(scratch))?;
-    }
-    Ok(posts)
+    let points = plan.points.count();
+    let beam = plan.settings.beam;
+    posts_of(alloc, workers, || Scratch::new(alloc, points, beam))
 }

@@ -7,7 +7,7 @@ ghost use Rattle.beam_search.specs.Serving.{Serves};
 
 use crate::plan::Plan;
 use beam_search::{Scratch, candidates, search};
-use graph_files::{FlatGraph, Rows};
+use graph_rows::{FlatGraph, Rows};
 use robust_prune::prune;
 
 /// The new row of p in this graph: what a search from the start visits, and p's row, pruned.

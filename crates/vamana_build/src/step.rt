@@ -1,22 +1,23 @@
 //! From one graph of a build to the next.
 ghost use Rattle.std.specs.Prelude.{◌≡◌, ◌+◌, ◌<◌, ◌≤◌, IfOk, OnOk, OnErr, length};
+ghost use Rattle.ann_defs.specs.declared.limits.TheConstants.{MAX_POINTS};
 ghost use Rattle.std.specs.List.{All};
 ghost use Rattle.std.specs.Ordering.{nat_cmp};
 ghost use Rattle.ann_defs.specs.Ordered.{ordered};
 ghost use Rattle.ann_defs.specs.BatchInsert.{bound_at};
 ghost use Rattle.steal_pool.specs.Work.{AllServe};
-ghost use Rattle.vamana_build.specs.Builds.{graph_at};
+ghost use Rattle.vamana_build.specs.Builds.{batches_of, graph_at};
 ghost use Rattle.vamana_build.specs.Changes.{change_at};
 ghost use Rattle.beam_search.specs.Serving.{Serves};
 
 use crate::batch::rows_changed;
 use crate::change::BatchChange;
-use crate::ids::sort_ids;
 use crate::new_rows::NewRows;
 use crate::plan::Plan;
 use ann_shelf::{Gate, NoMemory};
+use batch_insert::sort_ids;
 use beam_search::Scratch;
-use graph_files::FlatGraph;
+use graph_rows::FlatGraph;
 use std::alloc::Global;
 use std::thread::Threads;
 use steal_pool::{Post, Rounds};
@@ -38,7 +39,8 @@ pub(crate) fn change_of<R: Threads + Sync, P: Rounds, G: Gate + Sync>(
     requires to { to ≡ bound_at (length plan.now.points.now.vectors) plan.now.cap (k + 1) }
     requires some { from < to }
     requires within { to ≤ length plan.now.points.now.vectors }
-    requires few { k < 4194304 }
+    requires few { k < MAX_POINTS }
+    requires left { k < batches_of plan.now.points.now.vectors plan.now.settings }
     requires graph { graph.now ≡ graph_at plan.now.points.now.vectors plan.now.settings k }
     requires posts { length posts.old ≡ P.count pool.old }
     requires serve { AllServe (Serves (length plan.now.points.now.vectors) plan.now.settings.beam) posts.old }

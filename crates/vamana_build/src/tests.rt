@@ -4,7 +4,7 @@ ghost use Rattle.std.specs.Prelude.{◌≡◌, ◌≤◌, Some};
 use crate::{Alpha, BatchChange, OrderKind, Plan, StartKind, Vamana, VamanaSettings};
 use ann_shelf::{FreeGate, NoMemory};
 use bin_files::Points;
-use graph_files::{FlatGraph, Kind, Rows};
+use graph_rows::{FlatGraph, Kind, Rows};
 use std::alloc::Global;
 use std::process::Abort;
 use std::test::Fail;

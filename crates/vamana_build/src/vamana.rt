@@ -1,7 +1,8 @@
 //! A build in work.
 ghost use Rattle.std.specs.Prelude.{◌≡◌, ◌+◌, ◌<◌, ◌≤◌, IfOk, IfSome, OnErr, IfNone};
-ghost use Rattle.graph_files.specs.View.{contents};
-ghost use Rattle.graph_files.specs.WellFormed.{IsWellFormed};
+ghost use Rattle.ann_defs.specs.declared.limits.TheConstants.{MAX_WORKERS};
+ghost use Rattle.graph_rows.specs.View.{contents};
+ghost use Rattle.graph_rows.specs.WellFormed.{IsWellFormed};
 ghost use Rattle.vamana_build.specs.Builds.{batches_of, graph_at};
 ghost use Rattle.vamana_build.specs.Changes.{change_at};
 ghost use Rattle.vamana_build.specs.VamanaIndex.{vamana_index};
@@ -12,7 +13,7 @@ use crate::posts::posts_for;
 use crate::step::change_of;
 use ann_shelf::{Gate, NoMemory};
 use beam_search::Scratch;
-use graph_files::{FlatGraph, Index, Kind, Layer};
+use graph_rows::{FlatGraph, Index, Kind, Layer};
 use prefix_batches::Batches;
 use std::alloc::Global;
 use std::marker::Model;
@@ -53,7 +54,7 @@ impl<'p> Vamana<'p> {
     /// All memory of the graph and of the workers' searches is taken here: 4 bytes for each of the points' `degree + 1`
     /// words, and for each worker a scratch.
     pub fn new(alloc: Global, plan: &'p Plan<'p>, workers: u32) -> Result<Vamana<'p>, NoMemory>
-        requires { (1 ≤ workers) × (workers ≤ 64) }
+        requires { (1 ≤ workers) × (workers ≤ MAX_WORKERS) }
         ensures { IfOk result (λ v. v ≡ record { points = plan.now.points.now.vectors; settings = plan.now.settings; batch = 0; workers = workers }) }
     {
         let graph = FlatGraph::new(alloc, plan.points.count(), plan.settings.degree)?;
@@ -154,6 +155,7 @@ impl<'p> Vamana<'p> {
             start: self.plan.start(),
             base: self.graph,
             upper: self.upper,
+            stamp: None,
         }
     }
 }

@@ -1,21 +1,18 @@
 use Rattle.std.proofs.Common.{◌≡◌, ◌∙◌, ◌+◌, ◌-◌, ◌<◌, ◌≤◌, ap, sym, subst, ℕ, List, length, take, drop, arith, rules, length-take, length-drop}
 use Rattle.std.specs.List.{All, range_with_len}
 use Rattle.std.specs.Ordering.{nat_cmp}
-use Rattle.std.proofs.lemmas.List.{length-map}
 use Rattle.std.proofs.lemmas.List.Elements.{All-take, All-drop}
-use Rattle.std.proofs.lemmas.List.FromFn.{length-range_with_len}
 use Rattle.ann_defs.specs.Graph.{row_in, AreGoodRows}
-use Rattle.ann_defs.specs.Ordered.{ordered}
+use Rattle.ann_defs.specs.Ordered.{Ascends, ordered}
 use Rattle.ann_defs.specs.BatchInsert.{last_row_of}
-use Rattle.graph_files.specs.Flat.{Flat}
-use Rattle.vamana_build.specs.declared.change.ChangedRow.{ChangedRow}
+use Rattle.graph_rows.specs.Flat.{Flat}
 use Rattle.vamana_build.specs.declared.settings.VamanaSettings.{VamanaSettings}
-use Rattle.vamana_build.specs.Builds.{build_of, start_of, graph_at}
-use Rattle.vamana_build.specs.Changes.{Change, differing, change_at}
-use Rattle.vamana_build.specs.ChangedRows.{rows_in}
-use Rattle.vamana_build.proofs.Ascending.{ordered_again, All-ordered, some_ordered}
+use Rattle.vamana_build.specs.Builds.{order_of, batches_of, build_of, start_of, graph_at}
+use Rattle.vamana_build.specs.Changes.{Change, change_at}
+use Rattle.batch_insert.specs.Changes.{differing}
+use Rattle.batch_insert.proofs.Ascending.{All-ordered, some_ordered}
 use Rattle.vamana_build.proofs.Plans.{start_below, batch_is}
-use Rattle.vamana_build.proofs.Stepping.{rows_good, batch_of, change_right, differing_few}
+use Rattle.vamana_build.proofs.Stepping.{rows_good, batch_of, change_right}
 use Rattle.vamana_build.proofs.step.change_of.Goals as goal
 
 pub invariant_of-rows : goal.invariant_of-rows
@@ -30,7 +27,7 @@ invariant_of-rows g c =
     record {
       good = subst (λ (f : Flat). AreGoodRows n plan.settings.degree f.rows) (sym c.requires.graph) (rows_good plan.points.now.vectors plan.settings (start_below plan) c.args.k);
       batch_fits = subst (All (λ p. p < n)) (sym sorted) (All-ordered (λ p. p < n) part (All-take (λ p. p < n) (c.args.to - c.args.from) (drop c.args.from plan.order.items) (All-drop (λ p. p < n) c.args.from plan.order.items plan.inside)));
-      sorted = sorted ∙ ordered_again part ∙ ap (ordered nat_cmp) (sym sorted);
+      ascend = subst Ascends (sym c.as_slice.ensures.value) c.sort_ids.ensures.ascend;
       few =
           let many : length c.as_slice.result.now ≤ length c.in_ok-batch.batch.items = subst (λ (xs : List ℕ). length xs ≤ length c.in_ok-batch.batch.items) (sym c.as_slice.ensures.value) c.sort_ids.ensures.few in
           let same : length c.in_ok-batch.batch.items ≡ length part = ap length list in
@@ -48,21 +45,6 @@ rows_changed-requires-clause-some g c κs within =
     let some : 0 < length part = simp (length-take, length-drop) (omega (arith, whole)) in
     subst (λ (xs : List ℕ). 0 < length xs) (sym sorted) (some_ordered part some)
 
-pub new-requires : goal.new-requires
-new-requires g c =
-    let plan = c.args.plan.now in
-    let points = plan.points.now.vectors in
-    let rows = c.args.graph.now.rows in
-    let new = last_row_of (build_of points plan.settings) rows c.as_slice.result.now in
-    let few = differing_few (row_in rows) new (range_with_len 0 (length points)) in
-    let count : length (range_with_len 0 (length points)) ≡ length points = length-range_with_len 0 (length points) in
-    let same : length c.in_ok-changed.changed.items ≡ length (differing (row_in rows) new (range_with_len 0 (length points))) = long c.in_ok-changed.changed.items _ c.in_ok-changed.ensures.rows in
-    let limit = plan.count.1 in
-    omega (arith, few, count, same, limit)
-  where
-    long : (rows : List ChangedRow) (es : List (ℕ × List ℕ)) → rows_in rows ≡ es → length rows ≡ length es
-    long rows es e = sym (length-map rows (λ (r : ChangedRow). (r.id, r.row.items))) ∙ ap length e
-
 pub returns-clause-change : goal.returns-clause-change
 returns-clause-change g c =
     let plan = c.args.plan.now in
@@ -72,9 +54,9 @@ returns-clause-change g c =
     let items : c.in_ok-batch.batch.items ≡ take (c.args.to - c.args.from) (drop c.args.from c.deref.result.now) = search rules in
     let list : c.in_ok-batch.batch.items ≡ part = items ∙ ap (λ (xs : List ℕ). take (c.args.to - c.args.from) (drop c.args.from xs)) c.deref.ensures.value in
     let sorted = c.as_slice.ensures.value ∙ c.sort_ids.ensures.items ∙ ap (ordered nat_cmp) (list ∙ batch_is plan c.args.k c.args.from c.args.to c.requires.from c.requires.to) in
-    made points s c.args.k (start_below plan) c.args.graph.now c.as_slice.result.now (rows_in c.in_ok-changed.changed.items) c.new.result c.requires.graph sorted c.in_ok-changed.ensures.rows c.new.ensures
+    made points s c.args.k (start_below plan) c.args.graph.now c.as_slice.result.now c.in_ok-changed.changed c.new.result c.requires.graph sorted c.in_ok-changed.ensures.rows c.new.ensures (sym (ap length plan.ordered) ∙ plan.whole) c.requires.left
   where
-    made : (points : List (List ℕ)) (s : VamanaSettings) (k : ℕ) (starts : start_of points s < length points) (graph : Flat) (batch : List ℕ) (rows : List (ℕ × List ℕ)) (change : Change) → graph ≡ graph_at points s k → batch ≡ ordered nat_cmp (batch_of points s starts k) → rows ≡ differing (row_in graph.rows) (last_row_of (build_of points s) graph.rows batch) (range_with_len 0 (length points)) → change ≡ record { batch = k + 1; rows = rows } → change ≡ change_at points s k
-    made points s k starts graph batch rows change g b e f =
-        let all : rows ≡ (change_at points s k).rows = e ∙ (λ i. differing (row_in (g i).rows) (last_row_of (build_of points s) (g i).rows (b i)) (range_with_len 0 (length points))) ∙ change_right points s starts k in
+    made : (points : List (List ℕ)) (s : VamanaSettings) (k : ℕ) (starts : start_of points s < length points) (graph : Flat) (batch : List ℕ) (rows : List (ℕ × List ℕ)) (change : Change) → graph ≡ graph_at points s k → batch ≡ ordered nat_cmp (batch_of points s starts k) → rows ≡ differing (row_in graph.rows) (last_row_of (build_of points s) graph.rows batch) (range_with_len 0 (length points)) → change ≡ record { batch = k + 1; rows = rows } → length (order_of points s) ≡ length points → k < batches_of points s → change ≡ change_at points s k
+    made points s k starts graph batch rows change g b e f whole left =
+        let all : rows ≡ (change_at points s k).rows = e ∙ (λ i. differing (row_in (g i).rows) (last_row_of (build_of points s) (g i).rows (b i)) (range_with_len 0 (length points))) ∙ change_right points s starts k whole left in
         f ∙ (λ i. record { batch = k + 1; rows = all i })

@@ -1,11 +1,11 @@
-use Rattle.std.proofs.Common.{◌≡◌, ◌∙◌, ◌≤◌, ℕ, ◌∷◌, List, length, map, inl, refl, sym, ap, subst}
+use Rattle.std.proofs.Common.{◌≡◌, ◌∙◌, ◌≤◌, ℕ, ◌∷◌, List, None, length, map, inl, refl, sym, ap, subst}
 use Rattle.std.specs.List.{enumerate_from}
 use Rattle.ann_defs.specs.Distance.{dim_of}
-use Rattle.graph_files.specs.Flat.{Flat}
-use Rattle.graph_files.specs.Index.{Contents}
-use Rattle.graph_files.specs.Layers.{Layered}
-use Rattle.graph_files.specs.WellFormed.{IsWellFormed}
-use Rattle.graph_files.proofs.FlatIndex.{flat_well_formed}
+use Rattle.graph_rows.specs.Flat.{Flat}
+use Rattle.graph_rows.specs.Index.{Contents}
+use Rattle.graph_rows.specs.Layers.{Layered}
+use Rattle.graph_rows.specs.WellFormed.{IsWellFormed}
+use Rattle.graph_rows.proofs.FlatIndex.{flat_well_formed}
 use Rattle.vamana_build.specs.Builds.{batches_of, start_of, rows_at, graph_at}
 use Rattle.vamana_build.specs.Building.{Building}
 use Rattle.vamana_build.specs.VamanaIndex.{vamana_index}
@@ -22,6 +22,7 @@ laid count dim degree start graph upper = record {
   degree = degree;
   start = start;
   layers = enumerate_from 0 graph.rows ∷ map (λ (l : Layered). l.entries) upper;
+  stamp = None;
 }
 
 pub returns : goal.returns

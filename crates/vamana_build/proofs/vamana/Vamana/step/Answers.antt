@@ -27,6 +27,12 @@ change_of-requires-clause-few g c κs within =
     let few = built.few in
     omega (arith, less, few)
 
+pub change_of-requires-clause-left : goal.change_of-requires-clause-left
+change_of-requires-clause-left g c κs within =
+    let v = c.self.inside in
+    let plan = v.plan.now in
+    some_left plan.points.now.vectors plan.settings v.batch v.next _ c.self.invariant.0.next_is c.in-Some.is
+
 kept : (len : ℕ) (items posts : List (Post Room)) → length posts ≡ len → take len (posts ++ drop (length posts) items) ≡ posts
 kept len items posts e = take_at posts (drop (length posts) items) len e
 
@@ -40,7 +46,7 @@ invariant_of-self-2 g c =
     let posts : List (Post Room) = c.change_of.new.posts in
     let whole = kept v.posts.len v.posts.items posts (c.change_of.auto.posts ∙ c.as_mut_slice.ensures.len) in
     let count : length posts ≡ length v.posts.items = c.change_of.auto.posts ∙ ap length c.as_mut_slice.ensures.value in
-    let built = stepped points s v.batch v.graph c.put_into.new.graph v.batches next.new.self v.next next.result v.posts.items posts _ c.in_ok-change.change (start_below plan) c.self.invariant.0 c.in-Some.is c.in_ok-change.ensures.change c.put_into.ensures
+    let built = stepped points s v.batch v.graph c.put_into.new.graph v.batches next.new.self v.next next.result v.posts.items posts _ c.in_ok-change.change (start_below plan) (sym (ap length plan.ordered) ∙ plan.whole) c.self.invariant.0 c.in-Some.is c.in_ok-change.ensures.change c.put_into.ensures
     (record { counted = next.ensures.counted; bounds = next.ensures.bounds; fits = next.ensures.some; given = next.ensures.given; same = next.ensures.same })
     c.in_ok-change.ensures.serve count in
     (subst (λ (ps : List (Post Room)). IsBuilt points s (v.batch + 1) c.put_into.new.graph next.new.self next.result ps) (sym whole) built, c.self.invariant.1)

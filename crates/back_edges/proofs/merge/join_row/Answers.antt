@@ -1,6 +1,0 @@
-use Rattle.std.proofs.Common.{◌∙◌}
-use Rattle.back_edges.proofs.Merges.{drop_on}
-use Rattle.back_edges.proofs.merge.join_row.Goals as goal
-
-pub returns-clause-rest : goal.returns-clause-rest
-returns-clause-rest c = c.join_sources.ensures.rest ∙ drop_on _ _ _ _ c.join_sources.ensures.least c.copy_row-from.ensures.rest

@@ -1,8 +1,0 @@
-use Rattle.std.proofs.Common.{◌∙◌}
-use Rattle.std.proofs.lemmas.List.Filters.{dedup_is}
-use Rattle.back_edges.specs.Proposing.{pair_cmp}
-use Rattle.back_edges.proofs.Grouping.{sorted_once, pair_order, pair_ties}
-use Rattle.back_edges.proofs.proposals.sort_once.Goals as goal
-
-pub returns-clause-items : goal.returns-clause-items
-returns-clause-items c = dedup_is _ _ _ c.dedup.ensures.filtered ∙ sorted_once pair_cmp pair_order _ pair_ties c.args.pairs.now.items c.sort_unstable.new.self.items c.sort_unstable.ensures.permutation c.sort_unstable.ensures.sorted

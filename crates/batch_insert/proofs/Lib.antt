@@ -1,0 +1,10 @@
+pub mod Grouping
+pub mod Merges
+pub mod Ascending
+pub mod Padding
+pub mod Sources
+pub mod MergeFacts
+pub mod UpTo
+pub mod Differing
+pub mod OnePass
+pub mod SameRows

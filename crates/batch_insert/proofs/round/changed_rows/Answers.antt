@@ -1,0 +1,63 @@
+use Rattle.std.proofs.Common.{◌≡◌, ◌∙◌, ◌+◌, ◌*◌, ◌≤◌, ap, sym, subst, ℕ, List, length, arith, true}
+use Rattle.std.proofs.Math.Nat.{mul-le-mul_right}
+use Rattle.ann_defs.specs.Ordered.{ordered}
+use Rattle.batch_insert.specs.declared.pair.Pair.{Pair}
+use Rattle.batch_insert.specs.Batch.{AreTargets, laid_over}
+use Rattle.batch_insert.specs.Proposing.{Proposed, pair_cmp, targets_of}
+use Rattle.batch_insert.specs.Proposed.{proposed}
+use Rattle.batch_insert.proofs.MergeFacts.{targets_right, targets_few, ids_few}
+use Rattle.batch_insert.proofs.round.changed_rows.Goals as goal
+
+-- a list of no more than n rows is within the words of n
+words_fit : (count n size limit : ℕ) → count ≤ n → n * size ≤ limit → count * size ≤ limit
+words_fit count n size limit few words = let more : count * size ≤ n * size = grind (arith, mul-le-mul_right) in omega (arith, more, words)
+
+one_fits : (n size limit : ℕ) → 1 ≤ n → n * size ≤ limit → size ≤ limit
+one_fits n size limit some words = let one : 1 * size ≤ n * size = grind (arith, mul-le-mul_right) in omega (arith, one, words)
+
+less_words : (n bound limit : ℕ) → n * (bound + 1) ≤ limit → n * bound ≤ limit
+less_words n bound limit h = grind arith
+
+-- the pairs, once they are grouped
+grouped_is : (before after : Proposed) (pairs : List Pair) → after ≡ record before { pairs = ordered pair_cmp before.pairs; grouped = true } → before.pairs ≡ pairs → after.pairs ≡ ordered pair_cmp pairs
+grouped_is before after pairs e f = ap (λ (p : Proposed). p.pairs) e ∙ ap (ordered pair_cmp) f
+
+pub propose-requires-after_bounds : goal.propose-requires-after_bounds
+propose-requires-after_bounds g c =
+    let m = c.args.merging.now in
+    let n = g.M.Merging.count m in
+    let bound = g.M.Merging.most m in
+    let few = ids_few n bound (g.O.Rows.held c.args.old.now) (g.O.Rows.row_of c.args.old.now) (g.F.Rows.held c.args.fresh.now) (g.F.Rows.row_of c.args.fresh.now) c.args.ids.now c.requires.batch (g.M.Merging.merged m) in
+    let words = words_fit (length c.args.ids.now) n bound 134217728 few (less_words n bound 134217728 c.requires.words) in
+    omega (arith, words)
+
+pub invariant_of-work : goal.invariant_of-work
+invariant_of-work g c =
+    let m = c.args.merging.now in
+    let n = g.M.Merging.count m in
+    let bound = g.M.Merging.most m in
+    let held = g.O.Rows.held c.args.old.now in
+    let old = g.O.Rows.row_of c.args.old.now in
+    let batch = g.F.Rows.held c.args.fresh.now in
+    let fresh = g.F.Rows.row_of c.args.fresh.now in
+    let ids = c.args.ids.now in
+    let right = grouped_is c.in_ok-proposals.proposals c.group.new.self (proposed fresh ids) c.group.ensures c.in_ok-proposals.ensures.0 in
+    record {
+      grouped = ap (λ (p : Proposed). p.grouped) c.group.ensures;
+      targets = subst (AreTargets n bound held (laid_over old batch fresh)) (sym right) (targets_right n bound held old batch fresh ids c.requires.batch (g.M.Merging.merged m));
+      narrow = one_fits n (bound + 1) 134217728 c.requires.some c.requires.words;
+    }
+
+pub merge_all-requires-clause-words : goal.merge_all-requires-clause-words
+merge_all-requires-clause-words g c κs within =
+    let m = c.args.merging.now in
+    let n = g.M.Merging.count m in
+    let bound = g.M.Merging.most m in
+    let held = g.O.Rows.held c.args.old.now in
+    let old = g.O.Rows.row_of c.args.old.now in
+    let batch = g.F.Rows.held c.args.fresh.now in
+    let fresh = g.F.Rows.row_of c.args.fresh.now in
+    let ids = c.args.ids.now in
+    let right = grouped_is c.in_ok-proposals.proposals c.group.new.self (proposed fresh ids) c.group.ensures c.in_ok-proposals.ensures.0 in
+    let few : length (targets_of c.group.new.self.pairs) ≤ n = subst (λ (ps : List Pair). length (targets_of ps) ≤ n) (sym right) (targets_few n bound held old batch fresh ids c.requires.batch (g.M.Merging.merged m)) in
+    words_fit (length (targets_of c.group.new.self.pairs)) n (bound + 1) 134217728 few c.requires.words

@@ -1,0 +1,53 @@
+//! The merges of a build.
+ghost use Rattle.std.specs.Prelude.{length};
+ghost use Rattle.ann_defs.specs.BatchInsert.{merge_of};
+ghost use Rattle.beam_search.specs.Serving.{Serves};
+
+use crate::plan::Plan;
+use batch_insert::{Merging, Pair, merged_row};
+use beam_search::{Scratch, room};
+use robust_prune::RobustPrune;
+
+/// Merges rows by RobustPrune with the settings of a plan, in the room of a search's scratch.
+#[derive(Drop)]
+pub(crate) struct Merges<'a> {
+    pub plan: &'a Plan<'a>,
+}
+
+impl<'a> Merging for Merges<'a> {
+    ghost use Rattle.ann_defs.proofs.GoodRows.{merged_good, prune_without_good};
+    ghost use Rattle.ann_defs.specs.RobustPrune.{pruned_row};
+
+    type Scratch = Scratch;
+
+    ghost count = { λ m. length m.plan.now.points.now.vectors };
+
+    ghost most = { λ m. m.plan.now.settings.degree };
+
+    ghost merged = { λ m t row sources. merge_of m.plan.now.points.now.vectors m.plan.now.settings.alpha.num m.plan.now.settings.alpha.den m.plan.now.settings.degree t row sources };
+
+    ghost serves = { λ m s. Serves (length m.plan.now.points.now.vectors) m.plan.now.settings.beam s };
+
+    fn degree(&self) -> u32 {
+        self.plan.settings.degree
+    }
+
+    fn merge(
+        &self,
+        scratch: &mut Scratch,
+        target: u32,
+        row: &[u32],
+        sources: &[Pair],
+        out: &mut [u32],
+    ) -> usize {
+        let pruning = RobustPrune {
+            points: self.plan.points,
+            alpha: self.plan.settings.alpha,
+            degree: self.plan.settings.degree,
+        };
+        merged_row(&pruning, target, row, sources, room(scratch), out)
+    }
+
+    ghost good = { λ m t row sources at good are. merged_good (length m.plan.now.points.now.vectors) m.plan.now.settings.degree t m.plan.now.settings.degree (λ u set. pruned_row m.plan.now.points.now.vectors u set m.plan.now.settings.alpha.num m.plan.now.settings.alpha.den m.plan.now.settings.degree) row sources
+        (λ set inside. prune_without_good m.plan.now.points.now.vectors t set m.plan.now.settings.alpha.num m.plan.now.settings.alpha.den m.plan.now.settings.degree (length m.plan.now.points.now.vectors) inside) good are.inside are.distinct are.others };
+}
