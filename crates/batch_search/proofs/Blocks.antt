@@ -80,11 +80,11 @@ answer_count block h =
     omega (arith, enough, all)
 
 -- the blocks of answers
-module _ (f : List ℕ → List Near) (size : ℕ) where
-  pub answers_written : (queries : List (List ℕ)) → map answer_in (map (λ q. block_of size (f q)) queries) ≡ map f queries
+module _ (size : ℕ) where
+  pub answers_written : (answers : List (List Near)) → map answer_in (map (block_of size) answers) ≡ answers
   answers_written [] = refl
-  answers_written (q ∷ queries) = λ i. answer_written size (f q) i ∷ answers_written queries i
+  answers_written (a ∷ answers) = λ i. answer_written size a i ∷ answers_written answers i
 
-  pub all_have : (queries : List (List ℕ)) → All HasAnswer (map (λ q. block_of size (f q)) queries)
+  pub all_have : (answers : List (List Near)) → All HasAnswer (map (block_of size) answers)
   all_have [] = All-nil HasAnswer
-  all_have (q ∷ queries) = All-cons HasAnswer (block_of size (f q)) (map (λ x. block_of size (f x)) queries) (has_answer size (f q)) (all_have queries)
+  all_have (a ∷ answers) = All-cons HasAnswer (block_of size a) (map (block_of size) answers) (has_answer size a) (all_have answers)

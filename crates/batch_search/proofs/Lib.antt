@@ -1,3 +1,4 @@
 pub mod Blocks
-pub mod Queries
+pub mod FromSearch
 pub mod Rounds
+pub mod Short

@@ -1,13 +1,14 @@
 //! What is asked of which index.
 ghost use Rattle.std.specs.Prelude.{◌≡◌, ◌<◌, ◌≤◌, length};
+ghost use Rattle.ann_defs.specs.declared.limits.TheConstants.{MAX_BEAM};
 ghost use Rattle.std.proofs.Props.{props};
 ghost use Rattle.ann_defs.specs.Distance.{dim_of};
 ghost use Rattle.ann_defs.specs.Graph.{AreGoodRows};
-ghost use Rattle.graph_files.specs.View.{contents};
-ghost use Rattle.graph_files.specs.WellFormed.{IsWellFormed, base_bound};
+ghost use Rattle.graph_rows.specs.View.{contents};
+ghost use Rattle.graph_rows.specs.WellFormed.{IsWellFormed, base_bound};
 
 use bin_files::Points;
-use graph_files::Index;
+use graph_rows::Index;
 
 /// Queries of one index.
 ///
@@ -23,7 +24,7 @@ pub struct QueryBatch<'a> {
     ghost good: { AreGoodRows (length points.now.vectors) (base_bound (contents index.now).kind index.now.degree) index.now.base.rows } by { Prim.hlevel props },
     ghost start: { index.now.start < length points.now.vectors },
     ghost dim: { dim_of queries.now.vectors ≡ dim_of points.now.vectors },
-    ghost wide: { (1 ≤ beam) × (beam ≤ 1024) },
+    ghost wide: { (1 ≤ beam) × (beam ≤ MAX_BEAM) },
     ghost few: { (1 ≤ k) × (k ≤ beam) },
 }
 
@@ -39,7 +40,7 @@ impl<'a> QueryBatch<'a> {
         requires index { IsWellFormed (contents index.now) }
         requires count { index.now.count ≡ length points.now.vectors }
         requires dim { dim_of queries.now.vectors ≡ dim_of points.now.vectors }
-        requires beam { (1 ≤ beam) × (beam ≤ 1024) }
+        requires beam { (1 ≤ beam) × (beam ≤ MAX_BEAM) }
         requires k { (1 ≤ k) × (k ≤ beam) }
         ensures points { result.points.now ≡ points.now }
         ensures index { result.index.now ≡ index.now }

@@ -1,12 +1,13 @@
 //! Answers in blocks.
 ghost use Rattle.std.specs.Prelude.{◌≡◌, ◌+◌, ◌*◌, ◌≤◌, length, take, slice_index};
+ghost use Rattle.ann_defs.specs.declared.limits.TheConstants.{MAX_BEAM};
 ghost use Rattle.batch_search.specs.Blocks.{block_of, answer_in, HasAnswer};
 
 use ann_defs::Near;
 
 /// Writes an answer into a block: how many there are, each id with its squared distance, and zeros.
-pub(crate) fn write_answer(nears: &[Near], out: &mut [u32])
-    requires small { length nears.now ≤ 1024 }
+pub fn write_answer(nears: &[Near], out: &mut [u32])
+    requires small { length nears.now ≤ MAX_BEAM }
     requires room { 2 * length nears.now + 1 ≤ length out.old }
     ensures { out.new ≡ block_of (length out.old) nears.now }
 {

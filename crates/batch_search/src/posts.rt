@@ -3,11 +3,12 @@ ghost use Rattle.std.specs.Prelude.{◌≡◌, ◌≤◌, IfOk, length};
 ghost use Rattle.steal_pool.specs.Work.{AllServe};
 ghost use Rattle.beam_search.specs.Serving.{Serves};
 
+use ann_defs::{MAX_BEAM, MAX_WORKERS};
 use ann_shelf::NoMemory;
 use beam_search::Scratch;
 use bin_files::Points;
 use std::alloc::Global;
-use steal_pool::Post;
+use steal_pool::{Post, posts_of};
 
 /// A post for each worker, which serves searches of these points with this beam, any number of rounds.
 ///
@@ -18,15 +19,10 @@ pub fn posts_for(
     beam: u32,
     workers: u32,
 ) -> Result<Vec<Post<Scratch>>, NoMemory>
-    requires beam { (1 ≤ beam) × (beam ≤ 1024) }
-    requires workers { workers ≤ 64 }
+    requires beam { (1 ≤ beam) × (beam ≤ MAX_BEAM) }
+    requires workers { workers ≤ MAX_WORKERS }
     ensures count { IfOk result (λ v. length v.items ≡ workers) }
     ensures serve { IfOk result (λ v. AllServe (Serves (length points.now.vectors) beam) v.items) }
 {
-    let mut posts = Vec::with_capacity(alloc, workers as usize)?;
-    for _ in 0..workers {
-        let scratch = Scratch::new(alloc, points.count(), beam)?;
-        posts.push(Post::new(scratch))?;
-    }
-    Ok(posts)
+    posts_of(alloc, workers, || Scratch::new(alloc, points.count(), beam))
 }

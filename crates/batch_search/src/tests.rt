@@ -1,14 +1,14 @@
 //! Queries of a line of four points.
 ghost use Rattle.std.specs.Prelude.{◌≡◌, ◌≤◌, ◌∷◌, [], IfOk, length};
 ghost use Rattle.std.specs.List.{All};
-ghost use Rattle.graph_files.specs.View.{contents};
-ghost use Rattle.graph_files.specs.WellFormed.{IsWellFormed};
+ghost use Rattle.graph_rows.specs.View.{contents};
+ghost use Rattle.graph_rows.specs.WellFormed.{IsWellFormed};
 
 use crate::{Answers, QueryBatch, answer_round, posts_for};
 use ann_defs::Near;
 use ann_shelf::{FreeGate, NoMemory};
 use bin_files::Points;
-use graph_files::{FlatGraph, Index, Kind};
+use graph_rows::{FlatGraph, Index, Kind};
 use std::alloc::Global;
 use std::process::Abort;
 use std::test::Fail;
@@ -45,6 +45,7 @@ fn line_index(alloc: Global) -> Result<Index, NoMemory>
         start: 0,
         base,
         upper: Vec::new(alloc),
+        stamp: None,
     })
 }
 

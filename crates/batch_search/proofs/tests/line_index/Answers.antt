@@ -1,4 +1,4 @@
-use Rattle.graph_files.proofs.Examples.{four_built}
+use Rattle.graph_rows.proofs.Examples.{four_built}
 use Rattle.batch_search.proofs.tests.line_index.Goals as goal
 
 pub returns : goal.returns

@@ -1,9 +1,9 @@
 use Rattle.std.proofs.Common.{ℕ, List, ◌<◌, subst}
 use Rattle.ann_defs.specs.Graph.{AreGoodRows}
-use Rattle.graph_files.specs.View.{contents}
-use Rattle.graph_files.specs.WellFormed.{base_bound}
-use Rattle.graph_files.proofs.FlatIndex.{base_good}
-use Rattle.graph_files.proofs.LayerLists.{rows_enumerate}
+use Rattle.graph_rows.specs.View.{contents}
+use Rattle.graph_rows.specs.WellFormed.{base_bound}
+use Rattle.graph_rows.proofs.FlatIndex.{base_good}
+use Rattle.graph_rows.proofs.LayerLists.{rows_enumerate}
 use Rattle.batch_search.proofs.batch.QueryBatch.new.Goals as goal
 
 pub invariant_of-result : goal.invariant_of-result

@@ -5,8 +5,8 @@ use Rattle.std.proofs.lemmas.List.{take_min}
 use Rattle.ann_defs.specs.declared.near.Near.{Near}
 use Rattle.ann_defs.specs.Graph.{row_in}
 use Rattle.ann_defs.specs.GreedySearch.{found_of}
-use Rattle.graph_files.specs.Index.{Contents, layer_rows}
-use Rattle.graph_files.specs.WellFormed.{base_of}
+use Rattle.graph_rows.specs.Index.{Contents, layer_rows}
+use Rattle.graph_rows.specs.WellFormed.{base_of}
 use Rattle.batch_search.specs.Answers.{answer_of}
 
 -- the first k of what was found

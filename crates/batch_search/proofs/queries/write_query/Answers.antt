@@ -2,12 +2,12 @@ use Rattle.std.proofs.Common.{◌≡◌, ◌∙◌, take, length, ap, arith}
 use Rattle.std.specs.Prelude.{min}
 use Rattle.ann_defs.specs.Distance.{point}
 use Rattle.beam_search.specs.Room.{Room}
-use Rattle.graph_files.specs.View.{contents}
-use Rattle.graph_files.proofs.LayerLists.{rows_enumerate}
+use Rattle.graph_rows.specs.View.{contents}
+use Rattle.graph_rows.proofs.LayerLists.{rows_enumerate}
 use Rattle.batch_search.specs.Answers.{answer_of}
 use Rattle.batch_search.specs.Blocks.{block_of}
-use Rattle.batch_search.proofs.Queries.{answered}
-use Rattle.batch_search.proofs.tasks.write_query.Goals as goal
+use Rattle.batch_search.proofs.FromSearch.{answered}
+use Rattle.batch_search.proofs.queries.write_query.Goals as goal
 
 pub returns-clause-out : goal.returns-clause-out
 returns-clause-out c =
