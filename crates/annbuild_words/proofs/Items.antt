@@ -1,10 +1,10 @@
 -- The items of words, place by place.
-use Rattle.std.proofs.Common.{◌≡◌, ◌≢◌, ℕ, zero, suc, ◌+◌, ◌-◌, ◌<◌, ◌≤◌, Bool, true, false, ◌&&◌, List, [], ◌∷◌, length, get_or, drop, refl, ap, sym, ◌∙◌, arith, add-one, String, string_bytes}
-use Rattle.std.proofs.lemmas.List.{drop-map, get_or-map, at_drop_more, at_drop_all, length-map}
-use Rattle.std.specs.List.{list_all}
+use Rattle.std.proofs.Common.{◌≡◌, ◌≢◌, ℕ, zero, suc, ◌+◌, ◌-◌, ◌<◌, ◌≤◌, Bool, false, List, [], ◌∷◌, length, get_or, drop, refl, ap, sym, ◌∙◌, arith, add-one, String, string_bytes, ◌++◌, take, ap₂}
+use Rattle.std.proofs.lemmas.List.{drop-map, get_or-map, length-map, map-append, take_more, take_all}
 use Rattle.std.specs.declared.alloc.Global.{Global}
 use Rattle.annbuild_words.specs.Words.{Item, Wrong, item, items, items_after, is_bare, is_taken}
-use Rattle.annbuild_words.specs.Parts.{texts}
+use Rattle.annbuild_words.specs.declared.item.Part.{Part}
+use Rattle.annbuild_words.specs.Parts.{texts, item_of, items_of}
 
 abbrev taken_at : Bool → List (List ℕ) → ℕ → Bool
 taken_at taken words zero = taken
@@ -53,21 +53,12 @@ taken_after words (suc i) w h l e =
     let here : w ≡ get_or words i w = e ∙ ap (λ n. get_or words n w) (omega arith) in
     ap is_bare (text_here words i w (omega arith) here)
 
--- what is said of the items from a place on, with the item there apart
-pub rest_here : {Y : Type 0} (F : List Item → Y) (words : List (String Global)) (i : ℕ) (x : Item) → i < length words → x ≡ get_or (items (texts words)) i Wrong
-    → F (drop i (items (texts words))) ≡ F (x ∷ drop (i + 1) (items (texts words)))
-rest_here F words i x h e =
-    at_drop_more F (items (texts words)) i Wrong (omega (arith, length_items words)) ∙ ap (λ y. F (y ∷ drop (i + 1) (items (texts words)))) (sym e)
+-- one more part, and all of them
 
-pub rest_all : {Y : Type 0} (F : List Item → Y) (words : List (String Global)) (i : ℕ) → length words ≤ i → F (drop i (items (texts words))) ≡ F []
-rest_all F words i h = at_drop_all F (items (texts words)) i (omega (arith, length_items words))
+pub one_more : (words : List (String Global)) (i : ℕ) (old new : List Part) (p : Part) → i < length words → new ≡ old ++ p ∷ [] → items_of old ≡ take i (items (texts words))
+    → item_of p ≡ get_or (items (texts words)) i Wrong → items_of new ≡ take (i + 1) (items (texts words))
+one_more words i old new p h is so_far here =
+    ap items_of is ∙ map-append item_of old (p ∷ []) ∙ ap₂ (λ xs x. xs ++ x ∷ []) so_far here ∙ sym (take_more (items (texts words)) i Wrong (omega (arith, length_items words)))
 
--- a test of each item
-pub broken_here : (p : Item → Bool) (words : List (String Global)) (i : ℕ) (x : Item) (answer : Bool) → i < length words → x ≡ get_or (items (texts words)) i Wrong → false ≡ p x
-    → list_all p (drop i (items (texts words))) ≡ answer → false ≡ answer
-broken_here p words i x answer h e fails inv =
-    let here : list_all p (drop i (items (texts words))) ≡ (p x && list_all p (drop (i + 1) (items (texts words)))) = rest_here (λ xs. list_all p xs) words i x h e in
-    ap (λ b. b && list_all p (drop (i + 1) (items (texts words)))) fails ∙ sym here ∙ inv
-
-pub all_kept : (p : Item → Bool) (words : List (String Global)) (i : ℕ) (answer : Bool) → length words ≤ i → list_all p (drop i (items (texts words))) ≡ answer → true ≡ answer
-all_kept p words i answer h inv = sym (rest_all (λ xs. list_all p xs) words i h) ∙ inv
+pub all_cut : (words : List (String Global)) (i : ℕ) (xs : List Item) → length words ≤ i → xs ≡ take i (items (texts words)) → xs ≡ items (texts words)
+all_cut words i xs h is = is ∙ take_all i (items (texts words)) (omega (arith, length_items words))

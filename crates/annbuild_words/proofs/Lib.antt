@@ -1,10 +1,6 @@
-pub mod Decimals
 pub mod Numbers
 pub mod Items
-pub mod Picked
-pub mod Pairs
-pub mod Values
+pub mod Kept
 pub mod Ranges
-pub mod ReadBack
-pub mod Nested
-pub mod ByClap
+pub mod FewWords
+pub mod SpareNames

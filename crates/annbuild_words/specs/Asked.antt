@@ -1,33 +1,29 @@
 -- What words ask for.
-use Rattle.std.specs.Prelude.{ℕ, ◌≤◌, cond, min, IfSome, List, [], ◌∷◌, Option, Some, None, codes, string_bytes}
-use Rattle.std.specs.Str.{bytes_eq}
-use Rattle.ann_defs.specs.declared.kinds.OrderKind.{OrderKind}
-use Rattle.ann_defs.specs.declared.kinds.OrderKind.TheVariants.{Seeded}
-use Rattle.ann_defs.specs.declared.kinds.StartKind.{StartKind}
-use Rattle.ann_defs.specs.declared.kinds.StartKind.TheVariants.{Medoid}
-use Rattle.annbuild_words.specs.declared.fault.SettingName.{SettingName}
-use Rattle.annbuild_words.specs.declared.request.PoolKind.{PoolKind}
-use Rattle.annbuild_words.specs.declared.request.PoolKind.TheVariants.{Steal}
-use Rattle.annbuild_words.specs.declared.request.BuildOptions.{BuildOptions}
-use Rattle.annbuild_words.specs.declared.request.QueryOptions.{QueryOptions}
-use Rattle.annbuild_words.specs.declared.request.Request.{Request}
-use Rattle.annbuild_words.specs.declared.request.Request.TheVariants.{Build, Query}
-use Rattle.annbuild_words.specs.declared.owned.Parsed.{Parsed}
-use Rattle.annbuild_words.specs.declared.owned.Parsed.TheVariants as parsed
+use Rattle.std.specs.Prelude.{◌≡◌, ℕ, true, cond, ◌&&◌, List, [], ◌∷◌, length, drop, Option, Some, None, slice_get}
+use Rattle.std.specs.Option.{unwrap_or}
+use Rattle.ann_defs.specs.declared.kinds.Kind.{Kind}
+use Rattle.ann_defs.specs.declared.kinds.Kind.TheVariants.{Vamana}
+use Rattle.annbuild_words.specs.declared.role.SettingName.{SettingName}
 use Rattle.annbuild_words.specs.declared.request.Asked.{Asked}
 use Rattle.annbuild_words.specs.declared.request.Asked.TheVariants.{Nothing, Outside, For}
-use Rattle.annbuild_words.specs.declared.table.OptionName.TheVariants as option_names
-use Rattle.annbuild_words.specs.declared.table.OptionName.{OptionName}
-use Rattle.annbuild_words.specs.declared.value.Value.{Value}
-use Rattle.annbuild_words.specs.declared.value.Value.TheVariants.{Number, Fraction, PoolIs, OrderIs, StartIs}
-use Rattle.annbuild_words.specs.declared.value.OutOfRange.{OutOfRange}
-use Rattle.annbuild_words.specs.Words.{files_of, two, three}
-use Rattle.annbuild_words.specs.Options.{build_table, query_table, keeps_rules, setting, number_or, first_outside}
+use Rattle.annbuild_words.specs.declared.request.Request.{Request}
+use Rattle.annbuild_words.specs.declared.request.Settings.{Settings}
+use Rattle.annbuild_words.specs.declared.request.Verb.{Verb}
+use Rattle.annbuild_words.specs.declared.table.OptionName.TheVariants as options
+use Rattle.annbuild_words.specs.declared.range.OutOfRange.{OutOfRange}
+use Rattle.annbuild_words.specs.Words.{Item, items, files_of}
+use Rattle.annbuild_words.specs.Shapes.{verb_in, roles_of, is_built}
+use Rattle.annbuild_words.specs.Rules.{keeps_rules, setting, first_outside}
+use Rattle.annbuild_words.specs.Settings.{kind_of, settings_of, IsInRange}
 
--- a request with its file names and settings
-pub data Command : Type 0 where
-  Builds : (base index : List ℕ) (options : BuildOptions) → Command
-  Queries : (base index queries : List ℕ) (options : QueryOptions) → Command
+-- a command with its file names, in the order of the words, and its settings; a name that it doesn't have is empty
+pub record Command : Type 0 where
+  pub verb : Verb
+  pub first : List ℕ
+  pub second : List ℕ
+  pub third : List ℕ
+  pub fourth : List ℕ
+  pub settings : Settings
 
 -- no request, the first setting out of its range, or a request
 pub data Meaning : Type 0 where
@@ -37,13 +33,7 @@ pub data Meaning : Type 0 where
 
 -- the command of a request
 abbrev pub command_of : Request → Command
-command_of (Build r) = Builds r.base.now r.index.now r.options
-command_of (Query r) = Queries r.base.now r.index.now r.queries.now r.options
-
--- and of one with file names of its own
-abbrev pub parsed_command : Parsed → Command
-parsed_command (parsed.Build r) = Builds (string_bytes r.base) (string_bytes r.index) r.options
-parsed_command (parsed.Query r) = Queries (string_bytes r.base) (string_bytes r.index) (string_bytes r.queries) r.options
+command_of r = record { verb = r.verb; first = r.names.first.now; second = r.names.second.now; third = r.names.third.now; fourth = r.names.fourth.now; settings = r.settings }
 
 -- what an answer stands for
 abbrev pub seen : Asked → Meaning
@@ -51,105 +41,55 @@ seen Nothing = Nothing'
 seen (Outside name value least greatest) = Outside' name value least greatest
 seen (For request) = Means (command_of request)
 
--- settings of a build that the option table allows
-pub record AreInRange (o : BuildOptions) : Type 0 where
-  pub some_worker : 1 ≤ o.workers
-  pub workers : o.workers ≤ 64
-  pub some_degree : 1 ≤ o.degree
-  pub degree : o.degree ≤ 128
-  pub some_beam : 1 ≤ o.beam
-  pub beam : o.beam ≤ 1024
-  pub some_den : 1 ≤ o.den
-  pub ordered : o.den ≤ o.num
-  pub num : o.num ≤ 1000
-  pub cap : IfSome o.cap (λ cap. (1 ≤ cap) × (cap ≤ 4194304))
+-- the names of a command, and those of one that has none
+abbrev pub names_of : Command → List (List ℕ)
+names_of c = c.first ∷ c.second ∷ c.third ∷ c.fourth ∷ []
 
--- settings of queries that it allows
-pub record AreQueriesInRange (o : QueryOptions) : Type 0 where
-  pub some_worker : 1 ≤ o.workers
-  pub workers : o.workers ≤ 64
-  pub some_search : 1 ≤ o.search
-  pub search : o.search ≤ 1024
-  pub some_k : 1 ≤ o.k
-  pub k : o.k ≤ o.search
+abbrev pub no_names : List (List ℕ)
+no_names = [] ∷ [] ∷ [] ∷ [] ∷ []
 
--- the settings of a request are
-abbrev pub IsInRange : Meaning → Type 0
-IsInRange (Means (Builds base index options)) = AreInRange options
-IsInRange (Means (Queries base index queries options)) = AreQueriesInRange options
-IsInRange meaning = Unit {0}
+-- the names that the command doesn't have are empty
+abbrev pub HasNoMore : Command → Type 0
+HasNoMore c = drop (length (roles_of c.verb)) (names_of c) ≡ drop (length (roles_of c.verb)) no_names
 
--- values as the fields of a request
-abbrev pub numerator : Value → ℕ
-numerator (Fraction num den) = num
-numerator value = 12
+-- a command that the program has, with settings that the option table allows
+pub record IsAllowed (c : Command) : Type 0 where
+  pub built : is_built c.verb c.settings.kind ≡ true
+  pub no_more : HasNoMore c
+  pub in_range : IsInRange c.verb c.settings
 
-abbrev pub denominator : Value → ℕ
-denominator (Fraction num den) = den
-denominator value = 10
+-- what is said of the command, if there is one
+abbrev pub OnMeaning : Meaning → (Command → Type 0) → Type 0
+OnMeaning (Means command) P = P command
+OnMeaning meaning P = Unit {0}
 
-abbrev pub some_number : Value → Option ℕ
-some_number (Number n) = Some n
-some_number value = None
+-- a name of the words
+abbrev pub file_at : List (List ℕ) → ℕ → List ℕ
+file_at files i = unwrap_or (slice_get files i) []
 
-abbrev pub pool_of : Value → PoolKind
-pool_of (PoolIs kind) = kind
-pool_of value = Steal
-
-abbrev pub order_of : Value → OrderKind
-order_of (OrderIs kind) = kind
-order_of value = Seeded
-
-abbrev pub start_of : Value → StartKind
-start_of (StartIs kind) = kind
-start_of value = Medoid
-
--- the settings of a build
-abbrev pub build_options : (OptionName → Value) → BuildOptions
-build_options v = record {
-  workers = number_or 0 (v option_names.Workers);
-  pool = pool_of (v option_names.Pool);
-  seed = number_or 0 (v option_names.Seed);
-  order = order_of (v option_names.Order);
-  start = start_of (v option_names.Start);
-  degree = number_or 0 (v option_names.Degree);
-  beam = number_or 0 (v option_names.Beam);
-  num = numerator (v option_names.Alpha);
-  den = denominator (v option_names.Alpha);
-  cap = some_number (v option_names.Cap);
-}
-
--- the settings of queries: where --k isn't set, it is 10, or --search where that is less
-abbrev pub query_options : (OptionName → Value) → QueryOptions
-query_options v = record {
-  workers = number_or 0 (v option_names.Workers);
-  pool = pool_of (v option_names.Pool);
-  search = number_or 0 (v option_names.Search);
-  k = number_or (min 10 (number_or 0 (v option_names.Search))) (v option_names.K);
-}
+-- a command with these names and settings
+abbrev pub named : Verb → List (List ℕ) → Settings → Command
+named verb files settings = record { verb = verb; first = file_at files 0; second = file_at files 1; third = file_at files 2; fourth = file_at files 3; settings = settings }
 
 -- a command whose settings are in range, or the first that isn't
 abbrev pub checked : Option OutOfRange → Command → Meaning
 checked None command = Means command
 checked (Some o) command = Outside' o.name o.value o.least o.greatest
 
--- the meaning of the words after `build`, where they keep the rules
-abbrev pub build_meaning : Option (List ℕ × List ℕ) → List (List ℕ) → Meaning
-build_meaning None words = Nothing'
-build_meaning (Some files) words = checked (first_outside build_table words) (Builds files.0 files.1 (build_options (setting words)))
+-- the meaning of the words after a command, by a kind
+unfoldable pub meaning_by : Verb → Kind → List Item → Meaning
+meaning_by verb kind words = cond (is_built verb kind && keeps_rules verb kind words) (checked (first_outside verb kind words) (named verb (files_of words) (settings_of (setting verb kind words)))) Nothing'
 
--- and of those after `query`
-abbrev pub query_meaning : Option (List ℕ × List ℕ × List ℕ) → List (List ℕ) → Meaning
-query_meaning None words = Nothing'
-query_meaning (Some files) words = checked (first_outside query_table words) (Queries files.0 files.1 files.2 (query_options (setting words)))
+-- the kind that words say, or the default
+unfoldable pub kind_said : Verb → List Item → Kind
+kind_said verb words = kind_of (setting verb Vamana words options.Kind)
 
-unfoldable pub build_request : List (List ℕ) → Meaning
-build_request words = cond (keeps_rules build_table words) (build_meaning (two (files_of words)) words) Nothing'
-
-unfoldable pub query_request : List (List ℕ) → Meaning
-query_request words = cond (keeps_rules query_table words) (query_meaning (three (files_of words)) words) Nothing'
+-- the meaning of the words after a command
+abbrev pub meaning_of : Option Verb → List Item → Meaning
+meaning_of None words = Nothing'
+meaning_of (Some verb) words = meaning_by verb (kind_said verb words) words
 
 -- the meaning of the words after the program's name
 abbrev pub request_of : List (List ℕ) → Meaning
 request_of [] = Nothing'
-request_of (command ∷ words) = cond (bytes_eq command (codes "build")) (build_request words) (cond (bytes_eq command (codes "query")) (query_request words) Nothing')
+request_of (command ∷ words) = meaning_of (verb_in command) (items words)

@@ -1,9 +1,10 @@
-pub mod Codes
 pub mod Words
 pub mod Numbers
+pub mod Names
 pub mod Options
+pub mod Shapes
+pub mod Forms
+pub mod Rules
+pub mod Settings
 pub mod Parts
 pub mod Asked
-pub mod Lines
-pub mod Canonical
-pub mod Program

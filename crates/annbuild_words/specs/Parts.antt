@@ -15,3 +15,7 @@ item_of (parts.Sets name value) = Sets name.now value.now
 item_of parts.IsValue = IsValue
 item_of (parts.Names file) = Names file.now
 item_of parts.Wrong = Wrong
+
+-- the items that parts are
+abbrev pub items_of : List Part → List Item
+items_of parts = map item_of parts

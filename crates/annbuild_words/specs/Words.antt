@@ -64,23 +64,14 @@ abbrev pub value_for : List ℕ → Item → Option (List ℕ)
 value_for name (Sets option value) = cond (bytes_eq option name) (Some value) None
 value_for name item = None
 
--- the values that the words set for an option, in order
-abbrev pub values_for : List ℕ → List (List ℕ) → List (List ℕ)
-values_for name words = filter_map (value_for name) (items words)
+-- the values that items set for an option, in order
+abbrev pub values_for : List ℕ → List Item → List (List ℕ)
+values_for name given = filter_map (value_for name) given
 
 abbrev pub file_of : Item → Option (List ℕ)
 file_of (Names file) = Some file
 file_of item = None
 
 -- the file names, in order
-abbrev pub files_of : List (List ℕ) → List (List ℕ)
-files_of words = filter_map file_of (items words)
-
--- a list of two, and one of three
-abbrev pub two : List (List ℕ) → Option (List ℕ × List ℕ)
-two (a ∷ b ∷ []) = Some (a, b)
-two files = None
-
-abbrev pub three : List (List ℕ) → Option (List ℕ × List ℕ × List ℕ)
-three (a ∷ b ∷ c ∷ []) = Some (a, b, c)
-three files = None
+abbrev pub files_of : List Item → List (List ℕ)
+files_of given = filter_map file_of given

@@ -1,21 +1,50 @@
-//! What the words give: the values of options, and file names.
-ghost use Rattle.std.specs.Prelude.{◌≡◌, slice_get, option_map, bytes_eq};
+//! What parts give: the values of options, and file names.
+ghost use Rattle.std.specs.Prelude.{◌≡◌, ◌&&◌, slice_get, length};
 ghost use Rattle.std.specs.List.{list_all, list_any};
 ghost use Rattle.std.specs.Option.{option_copied};
-ghost use Rattle.annbuild_words.specs.Words.{items, values_for, files_of, two, three};
-ghost use Rattle.annbuild_words.specs.Options.{belongs, option_name};
-ghost use Rattle.annbuild_words.specs.Parts.{texts, item_of};
+ghost use Rattle.std.specs.Str.{bytes_eq};
+ghost use Rattle.annbuild_words.specs.Words.{value_for, file_of, values_for, files_of};
+ghost use Rattle.annbuild_words.specs.Options.{option_name, is_named, every_option};
+ghost use Rattle.annbuild_words.specs.Rules.{is_known, has_option};
+ghost use Rattle.annbuild_words.specs.Parts.{item_of, items_of};
 
-use crate::item::{Part, file_named, part_at, value_set};
-use crate::table::{OptionName, row_of};
+use crate::Verb;
+use crate::item::Part;
+use crate::options::options_of;
+use crate::shape::is_option_built;
+use crate::table::{OPTIONS, OptionName, name_of};
+use ann_defs::Kind;
 
-/// The value of a number, counted from 0, that the words set for an option.
-pub fn given_at<'w>(words: &'w [String], name: &str, number: usize) -> Option<&'w str>
-    ensures { option_copied result ≡ slice_get (values_for name.now (texts words.entry.now)) number }
+/// The value that a part sets for an option.
+fn value_set<'w>(part: Part<'w>, name: &str) -> Option<&'w str>
+    ensures { option_copied result ≡ value_for name.now (item_of part.entry) }
+{
+    match part {
+        Part::Sets {
+            name: option,
+            value,
+        } => { if option == name { Some(value) } else { None } }
+        _ => None,
+    }
+}
+
+/// The file name that a part is.
+fn file_named(part: Part<'_>) -> Option<&str>
+    ensures { option_copied result ≡ file_of (item_of part.entry) }
+{
+    match part {
+        Part::Names(file) => Some(file),
+        _ => None,
+    }
+}
+
+/// The value of a number, counted from 0, that parts set for an option.
+pub fn given_at<'w>(parts: &[Part<'w>], name: &str, number: usize) -> Option<&'w str>
+    ensures { option_copied result ≡ slice_get (values_for name.now (items_of parts.entry.now)) number }
 {
     let mut left = number;
-    for i in 0..words.len() {
-        let Some(value) = value_set(part_at(words, i), name) else {
+    for part in parts {
+        let Some(value) = value_set(*part, name) else {
             continue;
         };
         if left == 0 {
@@ -27,12 +56,12 @@ pub fn given_at<'w>(words: &'w [String], name: &str, number: usize) -> Option<&'
 }
 
 /// The file name of a number, counted from 0.
-fn file_at(words: &[String], number: usize) -> Option<&str>
-    ensures { option_copied result ≡ slice_get (files_of (texts words.entry.now)) number }
+pub fn file_at<'w>(parts: &[Part<'w>], number: usize) -> Option<&'w str>
+    ensures { option_copied result ≡ slice_get (files_of (items_of parts.entry.now)) number }
 {
     let mut left = number;
-    for i in 0..words.len() {
-        let Some(file) = file_named(part_at(words, i)) else {
+    for part in parts {
+        let Some(file) = file_named(*part) else {
             continue;
         };
         if left == 0 {
@@ -43,66 +72,51 @@ fn file_at(words: &[String], number: usize) -> Option<&str>
     None
 }
 
-/// The file names, where there are two.
-pub fn two_files(words: &[String]) -> Option<(&str, &str)>
-    ensures { option_map (λ p. (p.0.now, p.1.now)) result ≡ two (files_of (texts words.entry.now)) }
+/// How many file names there are.
+pub fn count_files(parts: &[Part<'_>]) -> usize
+    ensures { result ≡ length (files_of (items_of parts.now)) }
 {
-    let Some(first) = file_at(words, 0) else {
-        return None;
-    };
-    let Some(second) = file_at(words, 1) else {
-        return None;
-    };
-    if file_at(words, 2).is_some() {
-        return None;
+    let mut count = 0;
+    for part in parts {
+        if file_named(*part).is_some() {
+            count += 1;
+        }
     }
-    Some((first, second))
-}
-
-/// The file names, where there are three.
-pub fn three_files(words: &[String]) -> Option<(&str, &str, &str)>
-    ensures { option_map (λ p. (p.0.now, p.1.now, p.2.now)) result ≡ three (files_of (texts words.entry.now)) }
-{
-    let Some(first) = file_at(words, 0) else {
-        return None;
-    };
-    let Some(second) = file_at(words, 1) else {
-        return None;
-    };
-    let Some(third) = file_at(words, 2) else {
-        return None;
-    };
-    if file_at(words, 3).is_some() {
-        return None;
-    }
-    Some((first, second, third))
+    count
 }
 
 /// Whether one of these options has this name.
-fn is_named(name: &str, options: &[OptionName]) -> bool
-    ensures { result ≡ list_any (λ o. bytes_eq name.now (option_name o)) options.now }
+pub fn is_named(name: &str, options: &[OptionName]) -> bool
+    ensures { result ≡ is_named name.now options.now }
 {
-    options.iter().any(|option| name == row_of(*option).name)
+    options.iter().any(|option| name == name_of(*option))
 }
 
-/// Whether words of a command with these options may have this part.
-fn may_stand(part: Part<'_>, options: &[OptionName]) -> bool
-    ensures { result ≡ belongs options.now (item_of part.entry) }
+/// Whether a command has an option for a kind, and the program has the option.
+pub fn has_option(verb: Verb, kind: Kind, option: OptionName) -> bool
+    ensures { result ≡ has_option verb kind option }
+{
+    is_named(name_of(option), options_of(verb, kind)) && is_option_built(option)
+}
+
+/// Whether words may have a part: an option of the table with its value, or a file name that isn't empty.
+fn is_part_known(part: Part<'_>) -> bool
+    ensures { result ≡ is_known (item_of part.entry) }
 {
     match part {
-        Part::Sets { name, .. } => is_named(name, options),
+        Part::Sets { name, .. } => is_named(name, &OPTIONS),
         Part::IsValue => true,
         Part::Names(file) => !file.is_empty(),
         Part::Wrong => false,
     }
 }
 
-/// Whether words of a command with these options may have each part.
-pub fn may_all_stand(words: &[String], options: &[OptionName]) -> bool
-    ensures { result ≡ list_all (belongs options.now) (items (texts words.now)) }
+/// Whether words may have each part.
+pub fn are_known(parts: &[Part<'_>]) -> bool
+    ensures { result ≡ list_all is_known (items_of parts.now) }
 {
-    for i in 0..words.len() {
-        if !may_stand(part_at(words, i), options) {
+    for part in parts {
+        if !is_part_known(*part) {
             return false;
         }
     }

@@ -1,8 +1,10 @@
 //! What each word after the command is.
 ghost use Rattle.std.specs.Prelude.{◌≡◌, ◌<◌, length, slice_index_or};
-ghost use Rattle.std.specs.Option.{option_copied};
-ghost use Rattle.annbuild_words.specs.Words.{is_dashed, is_option, is_bare, bare_item, option_item, item, is_taken, items, value_for, file_of, Wrong};
-ghost use Rattle.annbuild_words.specs.Parts.{texts, item_of};
+ghost use Rattle.std.specs.Option.{MatchOption};
+ghost use Rattle.annbuild_words.specs.Words.{is_dashed, is_option, is_bare, bare_item, option_item, item, is_taken, items, Wrong};
+ghost use Rattle.annbuild_words.specs.Parts.{texts, item_of, items_of};
+
+use arrayvec::ArrayVec;
 
 /// What a word is.
 #[derive(Clone, Copy)]
@@ -16,6 +18,18 @@ pub enum Part<'w> {
     /// A word that breaks a rule.
     Wrong,
 }
+
+impl<'w> Default for Part<'w> {
+    fn default() -> Part<'w> {
+        Part::Wrong
+    }
+}
+
+/// The most words after a command that keep the rules: each option with its value, and four file names.
+pub const MOST_WORDS: usize = 58;
+
+/// The parts of the words after a command.
+pub type Parts<'w> = ArrayVec<Part<'w>, MOST_WORDS>;
 
 /// Whether a word begins with `-`.
 fn begins_with_dash(word: &str) -> bool
@@ -99,32 +113,23 @@ fn follows_bare(words: &[String], i: usize) -> bool
 }
 
 /// What the word at a place is.
-pub fn part_at(words: &[String], i: usize) -> Part<'_>
+fn part_at(words: &[String], i: usize) -> Part<'_>
     requires { i < length words.now }
     ensures { item_of result ≡ slice_index_or (items (texts words.now)) i Wrong }
 {
     between(follows_bare(words, i), words[i].as_str(), &words[i + 1..])
 }
 
-/// The value that a part sets for an option.
-pub fn value_set<'w>(part: Part<'w>, name: &str) -> Option<&'w str>
-    ensures { option_copied result ≡ value_for name.now (item_of part.entry) }
+/// The words after a command, cut into parts; none where there are more than any command has.
+pub fn cut(words: &[String]) -> Option<Parts<'_>>
+    ensures { MatchOption result (MOST_WORDS < length words.entry.now) (λ parts. items_of parts.items ≡ items (texts words.entry.now)) }
 {
-    match part {
-        Part::Sets {
-            name: option,
-            value,
-        } => { if option == name { Some(value) } else { None } }
-        _ => None,
+    if words.len() > MOST_WORDS {
+        return None;
     }
-}
-
-/// The file name that a part is.
-pub fn file_named(part: Part<'_>) -> Option<&str>
-    ensures { option_copied result ≡ file_of (item_of part.entry) }
-{
-    match part {
-        Part::Names(file) => Some(file),
-        _ => None,
+    let mut parts = ArrayVec::new();
+    for i in 0..words.len() {
+        parts.push(part_at(words, i));
     }
+    Some(parts)
 }

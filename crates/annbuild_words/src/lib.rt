@@ -1,35 +1,34 @@
-//! The words of a request, the faults of a call, and the lines that the program prints.
+//! The words of a request.
 //!
-//! `read_words` turns the words of the command line into a request by the rules that stand at it, and `parse_by_clap`
-//! reads that request once more by `clap`, from words of one fixed shape. `Fault` and `Status` say how a call ended.
-//! `Line` holds one printed line; making one takes no memory.
+//! `read_words` turns the words of the command line into a request by the rules that stand at it. The option table
+//! stands in `table`, `form` and `options`; commands and options that the program doesn't have yet stand there too, and
+//! `shape` says which.
 #![tactic(auto)]
 
-mod canonical;
-mod fault;
-mod fault_lines;
+mod form;
 mod given;
 mod item;
-mod line;
 mod names;
 mod number;
-mod owned;
-mod program;
-mod query_line;
+mod options;
+mod range;
 mod request;
+mod role;
 mod settings;
+mod shape;
 mod table;
-mod through_clap;
+#[cfg(test)]
+mod tests;
 mod value;
 mod words;
 
-pub use fault::{Fault, Role, Rule, SettingName, Status, What};
-pub use fault_lines::fault_line;
-pub use line::{BuiltLine, Line, built_line};
-pub use owned::{Parsed, ParsedBuild, ParsedQuery};
-pub use query_line::{push_query_line, query_line_bytes};
-pub use request::{
-    Asked, BuildOptions, BuildRequest, PoolKind, QueryOptions, QueryRequest, Request,
-};
-pub use through_clap::parse_by_clap;
+pub use form::{Form, Range, form_of};
+pub use names::{element_text, kind_text, order_text, pool_text, role_text, start_text};
+pub use options::{options_of, options_of_any};
+pub use request::{Asked, Names, Request, Settings, Verb};
+pub use role::{Role, SettingName};
+pub use settings::{Values, kind_in_value, settings_of};
+pub use shape::{VERBS, read_verb, roles_of, verb_text};
+pub use table::{OPTIONS, OptionName, long_of, name_of};
+pub use value::{Value, or_default};
 pub use words::read_words;

@@ -1,124 +1,75 @@
-//! What lines call files, settings, rules and quantities.
+//! What words and lines call files and choices.
 ghost use Rattle.std.specs.Prelude.{◌≡◌, ◌≤◌, length};
-ghost use Rattle.annbuild_words.specs.Lines.{role_name, setting_name, points_rule_name, index_rule_name, rule_name, what_name, quantity_name};
+ghost use Rattle.annbuild_words.specs.Names.{role_name, kind_name, pool_name, order_name, start_name, element_name};
 
-use crate::{Role, Rule, SettingName, What};
-use ann_shelf::Quantity;
-use bin_files::PointsRule;
-use graph_files::IndexRule;
+use crate::Role;
+use ann_defs::{Element, Kind, OrderKind, StartKind, Way};
 
 /// What lines call a file.
 pub fn role_text(file: Role) -> &'static str
     ensures name { result.now ≡ role_name file }
-    ensures short { length result.now ≤ 7 }
+    ensures short { length result.now ≤ 11 }
 {
     match file {
         Role::Base => "data",
         Role::Index => "index",
         Role::Queries => "queries",
         Role::Output => "output",
+        Role::Gone => "gone",
+        Role::Fresh => "fresh index",
+        Role::Labels => "labels",
     }
 }
 
-/// What lines call a setting: its option's name without the dashes.
-pub fn setting_text(name: SettingName) -> &'static str
-    ensures name { result.now ≡ setting_name name }
-    ensures short { length result.now ≤ 9 }
+/// The name of a kind of index.
+pub fn kind_text(kind: Kind) -> &'static str
+    ensures name { result.now ≡ kind_name kind }
+    ensures short { length result.now ≤ 6 }
 {
-    match name {
-        SettingName::Kind => "kind",
-        SettingName::Workers => "workers",
-        SettingName::Degree => "degree",
-        SettingName::Beam => "beam",
-        SettingName::AlphaDen => "alpha-den",
-        SettingName::AlphaNum => "alpha-num",
-        SettingName::Cap => "cap",
-        SettingName::Bits => "bits",
-        SettingName::MaxLevel => "max-level",
-        SettingName::List => "list",
-        SettingName::Trees => "trees",
-        SettingName::Leaf => "leaf",
-        SettingName::RoundCount => "rounds",
-        SettingName::Count => "count",
-        SettingName::Dim => "dim",
-        SettingName::QueryCount => "queries",
-        SettingName::Search => "search",
-        SettingName::K => "k",
-        SettingName::Callers => "callers",
+    match kind {
+        Kind::Vamana => "vamana",
+        Kind::Hnsw => "hnsw",
+        Kind::Nnd => "nnd",
     }
 }
 
-/// The name of a rule of a file of points.
-fn points_rule_text(rule: PointsRule) -> &'static str
-    ensures name { result.now ≡ points_rule_name rule }
-    ensures short { length result.now ≤ 12 }
+/// The name of a pool.
+pub fn pool_text(way: Way) -> &'static str
+    ensures { result.now ≡ pool_name way }
 {
-    match rule {
-        PointsRule::ShortHeader => "short header",
-        PointsRule::ZeroCount => "zero count",
-        PointsRule::ZeroDim => "zero dim",
-        PointsRule::ShortBody => "short body",
-        PointsRule::Trailing => "trailing",
+    match way {
+        Way::Serial => "serial",
+        Way::Shares => "rayon",
+        Way::Stealing => "steal",
     }
 }
 
-/// The name of a rule of an index file.
-fn index_rule_text(rule: IndexRule) -> &'static str
-    ensures name { result.now ≡ index_rule_name rule }
-    ensures short { length result.now ≤ 12 }
+/// The name of an order.
+pub fn order_text(kind: OrderKind) -> &'static str
+    ensures { result.now ≡ order_name kind }
 {
-    match rule {
-        IndexRule::ShortHeader => "short header",
-        IndexRule::Magic => "magic",
-        IndexRule::Version => "version",
-        IndexRule::Kind => "kind",
-        IndexRule::ZeroCount => "zero count",
-        IndexRule::ZeroDim => "zero dim",
-        IndexRule::Degree => "degree",
-        IndexRule::Start => "start",
-        IndexRule::Layers => "layers",
-        IndexRule::LayerIds => "layer ids",
-        IndexRule::IdRange => "id range",
-        IndexRule::SelfEdge => "self edge",
-        IndexRule::DoubleEdge => "double edge",
-        IndexRule::Short => "short",
-        IndexRule::Trailing => "trailing",
+    match kind {
+        OrderKind::File => "file",
+        OrderKind::Seeded => "seeded",
     }
 }
 
-/// The name of a rule.
-pub fn rule_text(rule: Rule) -> &'static str
-    ensures name { result.now ≡ rule_name rule }
-    ensures short { length result.now ≤ 12 }
+/// The name of a start.
+pub fn start_text(kind: StartKind) -> &'static str
+    ensures { result.now ≡ start_name kind }
 {
-    match rule {
-        Rule::Points(rule) => points_rule_text(rule),
-        Rule::Index(rule) => index_rule_text(rule),
+    match kind {
+        StartKind::First => "first",
+        StartKind::Medoid => "medoid",
     }
 }
 
-/// What two files differ in.
-pub fn what_text(what: What) -> &'static str
-    ensures name { result.now ≡ what_name what }
-    ensures short { length result.now ≤ 5 }
+/// The name of an element type.
+pub fn element_text(element: Element) -> &'static str
+    ensures { result.now ≡ element_name element }
 {
-    match what {
-        What::Count => "count",
-        What::Dim => "dim",
-    }
-}
-
-/// What a limit speaks of.
-pub fn quantity_text(name: Quantity) -> &'static str
-    ensures name { result.now ≡ quantity_name name }
-    ensures short { length result.now ≤ 7 }
-{
-    match name {
-        Quantity::Count => "count",
-        Quantity::Dim => "dim",
-        Quantity::Degree => "degree",
-        Quantity::Cells => "cells",
-        Quantity::Words => "words",
-        Quantity::Answers => "answers",
+    match element {
+        Element::U8 => "u8",
+        Element::I8 => "i8",
     }
 }

@@ -1,30 +1,37 @@
 //! What the words ask for.
 
 use crate::SettingName;
-use ann_defs::{OrderKind, StartKind};
+use ann_defs::{Element, Kind, OrderKind, StartKind, Way};
 
-/// Who runs the tasks of a round.
+/// A command.
 #[derive(Clone, Copy, Debug, PartialEq, Eq)]
-pub enum PoolKind {
-    /// One thread, whatever the number of workers says.
-    Serial,
-    /// `rayon`, with one fixed share of the tasks for each worker.
-    Rayon,
-    /// Workers that claim tasks and steal them from each other.
-    Steal,
+pub enum Verb {
+    Build,
+    Query,
+    Check,
+    Make,
+    Trial,
+    Live,
+    Exact,
+    Recall,
+    Forget,
+    Without,
+    Label,
+    Find,
 }
 
-/// The settings of a Vamana build.
+/// All settings, in the order of the option table. What a command doesn't have keeps its default.
 #[derive(Clone, Copy, Debug)]
-pub struct BuildOptions {
+pub struct Settings {
+    pub kind: Kind,
     pub workers: u32,
-    pub pool: PoolKind,
+    pub pool: Way,
     pub seed: u64,
     pub order: OrderKind,
     pub start: StartKind,
-    /// The greatest length of a row (`R` in DiskANN).
+    /// The greatest length of a row (`R` in DiskANN, `M` in HNSW).
     pub degree: u32,
-    /// The width of the search list (`L` in DiskANN).
+    /// The width of the search list of a build (`L` in DiskANN).
     pub beam: u32,
     /// The numerator of alpha.
     pub num: u32,
@@ -32,41 +39,57 @@ pub struct BuildOptions {
     pub den: u32,
     /// The greatest number of points in a batch; where none is set, a fiftieth of the points.
     pub cap: Option<u32>,
-}
-
-/// `build`: reads the points of `base`, and writes their index to `index`.
-#[derive(Clone, Copy)]
-pub struct BuildRequest<'w> {
-    pub base: &'w str,
-    pub index: &'w str,
-    pub options: BuildOptions,
-}
-
-/// The settings of queries.
-#[derive(Clone, Copy, Debug)]
-pub struct QueryOptions {
-    pub workers: u32,
-    pub pool: PoolKind,
-    /// The width of the search list.
+    /// How often all points are inserted.
+    pub passes: u32,
+    /// How many leading zeros of a word lift a point by one layer.
+    pub bits: u32,
+    /// The greatest layer.
+    pub max_level: u32,
+    /// The length of the lists of nearest points.
+    pub list: u32,
+    /// The number of random trees.
+    pub trees: u32,
+    /// The most points of a leaf.
+    pub leaf: u32,
+    /// The most rounds over the lists.
+    pub rounds: u32,
+    /// The changes of a round after which no other one is made.
+    pub floor: u64,
+    /// The version of the index file.
+    pub format: u32,
+    /// The number of made points.
+    pub count: u32,
+    /// Their dimension.
+    pub dim: u32,
+    /// The number of made queries.
+    pub queries: u32,
+    /// The width of the search list of a query.
     pub search: u32,
     /// How many of the nearest ids a query asks for.
     pub k: u32,
+    /// The number of callers that ask beside a build.
+    pub callers: u32,
+    /// The label that points are asked for.
+    pub label: u32,
+    /// What the bytes of points and queries stand for.
+    pub element: Element,
 }
 
-/// `query`: answers the points of `queries` from the points of `base` and their index in `index`.
+/// The file names of a command, in the order of the words. One that the command doesn't have is empty.
 #[derive(Clone, Copy)]
-pub struct QueryRequest<'w> {
-    pub base: &'w str,
-    pub index: &'w str,
-    pub queries: &'w str,
-    pub options: QueryOptions,
+pub struct Names<'w> {
+    pub first: &'w str,
+    pub second: &'w str,
+    pub third: &'w str,
+    pub fourth: &'w str,
 }
 
-/// A request with its file names and settings.
+/// A command with its file names and settings.
 #[derive(Clone, Copy)]
-pub enum Request<'w> {
-    Build(BuildRequest<'w>),
-    Query(QueryRequest<'w>),
+pub struct Request<'w> {
+    pub verb: Verb,
+    pub names: Names<'w>,
+    pub settings: Settings,
 }
 
 /// What words ask for.

@@ -1,19 +1,18 @@
-//! The settings of a request, from the values that the words give.
+//! The settings of a request, from the values of the options, and back.
 ghost use Rattle.std.specs.Prelude.{◌≡◌, ◌<◌, ◌^◌, IfSome};
 ghost use Rattle.annbuild_words.specs.declared.table.OptionName.{OptionName};
 ghost use Rattle.annbuild_words.specs.declared.value.Value.{Value};
-ghost use Rattle.annbuild_words.specs.Options.{number_or};
-ghost use Rattle.annbuild_words.specs.Asked.{build_options, query_options, pool_of, order_of, start_of, numerator, denominator, some_number, AreInRange, AreQueriesInRange};
-ghost use Rattle.annbuild_words.specs.Parts.{texts};
-ghost use Rattle.annbuild_words.specs.Options as options;
+ghost use Rattle.annbuild_words.specs.Rules.{number_or};
+ghost use Rattle.annbuild_words.specs.Settings.{settings_of, values_of, kind_of, pool_of, order_of, start_of, element_of, numerator, denominator, some_number, IsInRange};
 
+use crate::range::number_of;
 use crate::table::OptionName;
-use crate::value::{Value, number_of, value_of};
-use crate::{BuildOptions, PoolKind, QueryOptions};
-use ann_defs::{OrderKind, StartKind};
+use crate::value::Value;
+use crate::{Settings, Verb};
+use ann_defs::{Element, Kind, OrderKind, StartKind, Way};
 
-/// What gives the values of settings.
-pub trait Settings {
+/// What gives the values of the options.
+pub trait Values {
     /// The value of each option.
     ghost values: { Self → OptionName → Value };
 
@@ -22,15 +21,45 @@ pub trait Settings {
         ensures { result ≡ values self.now option };
 }
 
-/// The words after a command.
-#[derive(Clone, Copy)]
-pub struct Words<'w>(pub &'w [String]);
-
-impl<'w> Settings for Words<'w> {
-    ghost values = { λ w. options.setting (texts w.0.now) };
+impl Values for Settings {
+    ghost values = { values_of };
 
     fn value(&self, option: OptionName) -> Value {
-        value_of(self.0, option)
+        match option {
+            OptionName::Kind => Value::KindIs(self.kind),
+            OptionName::Workers => Value::Number(u64::from(self.workers)),
+            OptionName::Pool => Value::PoolIs(self.pool),
+            OptionName::Seed => Value::Number(self.seed),
+            OptionName::Order => Value::OrderIs(self.order),
+            OptionName::Start => Value::StartIs(self.start),
+            OptionName::Degree => Value::Number(u64::from(self.degree)),
+            OptionName::Beam => Value::Number(u64::from(self.beam)),
+            OptionName::Alpha => Value::Fraction {
+                num: u64::from(self.num),
+                den: u64::from(self.den),
+            },
+            OptionName::Cap => match self.cap {
+                Some(cap) => Value::Number(u64::from(cap)),
+                None => Value::ByRule,
+            },
+            OptionName::Passes => Value::Number(u64::from(self.passes)),
+            OptionName::Bits => Value::Number(u64::from(self.bits)),
+            OptionName::MaxLevel => Value::Number(u64::from(self.max_level)),
+            OptionName::List => Value::Number(u64::from(self.list)),
+            OptionName::Trees => Value::Number(u64::from(self.trees)),
+            OptionName::Leaf => Value::Number(u64::from(self.leaf)),
+            OptionName::Rounds => Value::Number(u64::from(self.rounds)),
+            OptionName::Floor => Value::Number(self.floor),
+            OptionName::Format => Value::Number(u64::from(self.format)),
+            OptionName::Count => Value::Number(u64::from(self.count)),
+            OptionName::Dim => Value::Number(u64::from(self.dim)),
+            OptionName::Queries => Value::Number(u64::from(self.queries)),
+            OptionName::Search => Value::Number(u64::from(self.search)),
+            OptionName::K => Value::Number(u64::from(self.k)),
+            OptionName::Callers => Value::Number(u64::from(self.callers)),
+            OptionName::Label => Value::Number(u64::from(self.label)),
+            OptionName::Type => Value::ElementIs(self.element),
+        }
     }
 }
 
@@ -42,13 +71,23 @@ fn small(value: Value, other: u64) -> u32
     number_of(value, other) as u32
 }
 
+/// The kind of a value.
+pub fn kind_in_value(value: Value) -> Kind
+    ensures { result ≡ kind_of value }
+{
+    match value {
+        Value::KindIs(kind) => kind,
+        _ => Kind::Vamana,
+    }
+}
+
 /// The pool of a value.
-fn pool_in_value(value: Value) -> PoolKind
+fn pool_in_value(value: Value) -> Way
     ensures { result ≡ pool_of value }
 {
     match value {
-        Value::PoolIs(kind) => kind,
-        _ => PoolKind::Steal,
+        Value::PoolIs(way) => way,
+        _ => Way::Stealing,
     }
 }
 
@@ -69,6 +108,16 @@ fn start_in_value(value: Value) -> StartKind
     match value {
         Value::StartIs(kind) => kind,
         _ => StartKind::Medoid,
+    }
+}
+
+/// The element type of a value.
+fn element_in_value(value: Value) -> Element
+    ensures { result ≡ element_of value }
+{
+    match value {
+        Value::ElementIs(element) => element,
+        _ => Element::U8,
     }
 }
 
@@ -96,13 +145,15 @@ fn cap_in_value(value: Value) -> Option<u32>
     }
 }
 
-/// The settings of a build, where each is in its range.
-pub fn settings_of_build<S: Settings>(given: &S) -> BuildOptions
-    requires { AreInRange (build_options (S.values given.now)) }
-    ensures { result ≡ build_options (S.values given.now) }
+/// The settings of values, where each is in its range.
+pub fn settings_of<V: Values>(verb: Verb, given: &V) -> Settings
+    requires { IsInRange verb (settings_of (V.values given.now)) }
+    ensures { result ≡ settings_of (V.values given.now) }
 {
     let alpha = alpha_in_value(given.value(OptionName::Alpha));
-    BuildOptions {
+    let search = number_of(given.value(OptionName::Search), 0);
+    Settings {
+        kind: kind_in_value(given.value(OptionName::Kind)),
         workers: small(given.value(OptionName::Workers), 0),
         pool: pool_in_value(given.value(OptionName::Pool)),
         seed: number_of(given.value(OptionName::Seed), 0),
@@ -113,19 +164,22 @@ pub fn settings_of_build<S: Settings>(given: &S) -> BuildOptions
         num: alpha.0,
         den: alpha.1,
         cap: cap_in_value(given.value(OptionName::Cap)),
-    }
-}
-
-/// The settings of queries, where each is in its range.
-pub fn settings_of_query<S: Settings>(given: &S) -> QueryOptions
-    requires { AreQueriesInRange (query_options (S.values given.now)) }
-    ensures { result ≡ query_options (S.values given.now) }
-{
-    let search = number_of(given.value(OptionName::Search), 0);
-    QueryOptions {
-        workers: small(given.value(OptionName::Workers), 0),
-        pool: pool_in_value(given.value(OptionName::Pool)),
+        passes: small(given.value(OptionName::Passes), 0),
+        bits: small(given.value(OptionName::Bits), 0),
+        max_level: small(given.value(OptionName::MaxLevel), 0),
+        list: small(given.value(OptionName::List), 0),
+        trees: small(given.value(OptionName::Trees), 0),
+        leaf: small(given.value(OptionName::Leaf), 0),
+        rounds: small(given.value(OptionName::Rounds), 0),
+        floor: number_of(given.value(OptionName::Floor), 0),
+        format: small(given.value(OptionName::Format), 0),
+        count: small(given.value(OptionName::Count), 0),
+        dim: small(given.value(OptionName::Dim), 0),
+        queries: small(given.value(OptionName::Queries), 0),
         search: search as u32,
         k: small(given.value(OptionName::K), search.min(10)),
+        callers: small(given.value(OptionName::Callers), 0),
+        label: small(given.value(OptionName::Label), 0),
+        element: element_in_value(given.value(OptionName::Type)),
     }
 }

@@ -1,13 +1,11 @@
-//! The option table: each option's name, the kind of its value, its default and its range.
+//! The options, in the order of the option table, and their names.
 ghost use Rattle.std.specs.Prelude.{◌≡◌};
-ghost use Rattle.annbuild_words.specs.Options.{option_name, long_name, option_form};
-
-use crate::{PoolKind, SettingName};
-use ann_defs::{OrderKind, StartKind};
+ghost use Rattle.annbuild_words.specs.Options.{option_name, long_name};
 
 /// An option.
 #[derive(Clone, Copy)]
 pub enum OptionName {
+    Kind,
     Workers,
     Pool,
     Seed,
@@ -17,49 +15,28 @@ pub enum OptionName {
     Beam,
     Alpha,
     Cap,
+    Passes,
+    Bits,
+    MaxLevel,
+    List,
+    Trees,
+    Leaf,
+    Rounds,
+    Floor,
+    Format,
+    Count,
+    Dim,
+    Queries,
     Search,
     K,
+    Callers,
+    Label,
+    Type,
 }
 
-/// The numbers that an option may set.
-#[derive(Clone, Copy)]
-pub enum Range {
-    Every,
-    Within {
-        setting: SettingName,
-        least: u64,
-        greatest: u64,
-    },
-    /// From `least` to the value of `--search`.
-    ToSearch {
-        setting: SettingName,
-        least: u64,
-    },
-}
-
-/// The kind of an option's value, with its default and its range.
-#[derive(Clone, Copy)]
-pub enum Form {
-    /// A number. Where no default is given, other settings or the data decide.
-    OfNumber { default: Option<u64>, range: Range },
-    /// Two numbers: a denominator from 1 to `greatest`, and a numerator from the denominator to `greatest`.
-    OfFraction { num: u64, den: u64, greatest: u64 },
-    OfPool { default: PoolKind },
-    OfOrder { default: OrderKind },
-    OfStart { default: StartKind },
-}
-
-/// A row of the table.
-#[derive(Clone, Copy)]
-pub struct Row {
-    pub name: &'static str,
-    /// The name without its dashes.
-    pub long: &'static str,
-    pub form: Form,
-}
-
-/// The options of `build`, in the order in which they are checked.
-pub const BUILD: [OptionName; 9] = [
+/// All options, in the order in which they are checked.
+pub const OPTIONS: [OptionName; 27] = [
+    OptionName::Kind,
     OptionName::Workers,
     OptionName::Pool,
     OptionName::Seed,
@@ -69,110 +46,91 @@ pub const BUILD: [OptionName; 9] = [
     OptionName::Beam,
     OptionName::Alpha,
     OptionName::Cap,
-];
-
-/// The options of `query`, in the order in which they are checked.
-pub const QUERY: [OptionName; 4] = [
-    OptionName::Workers,
-    OptionName::Pool,
+    OptionName::Passes,
+    OptionName::Bits,
+    OptionName::MaxLevel,
+    OptionName::List,
+    OptionName::Trees,
+    OptionName::Leaf,
+    OptionName::Rounds,
+    OptionName::Floor,
+    OptionName::Format,
+    OptionName::Count,
+    OptionName::Dim,
+    OptionName::Queries,
     OptionName::Search,
     OptionName::K,
+    OptionName::Callers,
+    OptionName::Label,
+    OptionName::Type,
 ];
 
-/// A number within bounds.
-fn number(default: Option<u64>, setting: SettingName, least: u64, greatest: u64) -> Form
-    ensures { result ≡ Form.OfNumber default (Range.Within setting least greatest) }
+/// The name of an option, as words write it.
+pub fn name_of(option: OptionName) -> &'static str
+    ensures { result.now ≡ option_name option }
 {
-    Form::OfNumber {
-        default,
-        range: Range::Within {
-            setting,
-            least,
-            greatest,
-        },
+    match option {
+        OptionName::Kind => "--kind",
+        OptionName::Workers => "--workers",
+        OptionName::Pool => "--pool",
+        OptionName::Seed => "--seed",
+        OptionName::Order => "--order",
+        OptionName::Start => "--start",
+        OptionName::Degree => "--degree",
+        OptionName::Beam => "--beam",
+        OptionName::Alpha => "--alpha",
+        OptionName::Cap => "--cap",
+        OptionName::Passes => "--passes",
+        OptionName::Bits => "--bits",
+        OptionName::MaxLevel => "--max-level",
+        OptionName::List => "--list",
+        OptionName::Trees => "--trees",
+        OptionName::Leaf => "--leaf",
+        OptionName::Rounds => "--rounds",
+        OptionName::Floor => "--floor",
+        OptionName::Format => "--format",
+        OptionName::Count => "--count",
+        OptionName::Dim => "--dim",
+        OptionName::Queries => "--queries",
+        OptionName::Search => "--search",
+        OptionName::K => "--k",
+        OptionName::Callers => "--callers",
+        OptionName::Label => "--label",
+        OptionName::Type => "--type",
     }
 }
 
-/// The table.
-pub fn row_of(option: OptionName) -> Row
-    ensures name { result.name.now ≡ option_name option }
-    ensures long { result.long.now ≡ long_name option }
-    ensures form { result.form ≡ option_form option }
+/// The same without the dashes.
+pub fn long_of(option: OptionName) -> &'static str
+    ensures { result.now ≡ long_name option }
 {
     match option {
-        OptionName::Workers => Row {
-            name: "--workers",
-            long: "workers",
-            form: number(Some(4), SettingName::Workers, 1, 64),
-        },
-        OptionName::Pool => Row {
-            name: "--pool",
-            long: "pool",
-            form: Form::OfPool {
-                default: PoolKind::Steal,
-            },
-        },
-        OptionName::Seed => Row {
-            name: "--seed",
-            long: "seed",
-            form: Form::OfNumber {
-                default: Some(0),
-                range: Range::Every,
-            },
-        },
-        OptionName::Order => Row {
-            name: "--order",
-            long: "order",
-            form: Form::OfOrder {
-                default: OrderKind::Seeded,
-            },
-        },
-        OptionName::Start => Row {
-            name: "--start",
-            long: "start",
-            form: Form::OfStart {
-                default: StartKind::Medoid,
-            },
-        },
-        OptionName::Degree => Row {
-            name: "--degree",
-            long: "degree",
-            form: number(Some(64), SettingName::Degree, 1, 128),
-        },
-        OptionName::Beam => Row {
-            name: "--beam",
-            long: "beam",
-            form: number(Some(128), SettingName::Beam, 1, 1024),
-        },
-        OptionName::Alpha => Row {
-            name: "--alpha",
-            long: "alpha",
-            form: Form::OfFraction {
-                num: 12,
-                den: 10,
-                greatest: 1000,
-            },
-        },
-        OptionName::Cap => Row {
-            name: "--cap",
-            long: "cap",
-            form: number(None, SettingName::Cap, 1, 4_194_304),
-        },
-        OptionName::Search => Row {
-            name: "--search",
-            long: "search",
-            form: number(Some(64), SettingName::Search, 1, 1024),
-        },
-        OptionName::K => Row {
-            name: "--k",
-            long: "k",
-            form: Form::OfNumber {
-                default: None,
-                range: Range::ToSearch {
-                    setting: SettingName::K,
-                    least: 1,
-                },
-            },
-        },
+        OptionName::Kind => "kind",
+        OptionName::Workers => "workers",
+        OptionName::Pool => "pool",
+        OptionName::Seed => "seed",
+        OptionName::Order => "order",
+        OptionName::Start => "start",
+        OptionName::Degree => "degree",
+        OptionName::Beam => "beam",
+        OptionName::Alpha => "alpha",
+        OptionName::Cap => "cap",
+        OptionName::Passes => "passes",
+        OptionName::Bits => "bits",
+        OptionName::MaxLevel => "max-level",
+        OptionName::List => "list",
+        OptionName::Trees => "trees",
+        OptionName::Leaf => "leaf",
+        OptionName::Rounds => "rounds",
+        OptionName::Floor => "floor",
+        OptionName::Format => "format",
+        OptionName::Count => "count",
+        OptionName::Dim => "dim",
+        OptionName::Queries => "queries",
+        OptionName::Search => "search",
+        OptionName::K => "k",
+        OptionName::Callers => "callers",
+        OptionName::Label => "label",
+        OptionName::Type => "type",
     }
 }

@@ -1,8 +1,8 @@
 use Rattle.std.proofs.Common.{◌≡◌, drop}
-use Rattle.std.specs.List.{slice_get, filter_map}
-use Rattle.annbuild_words.specs.Words.{items, file_of, files_of}
-use Rattle.annbuild_words.specs.Parts.{texts}
+use Rattle.std.specs.List.{slice_get}
+use Rattle.annbuild_words.specs.Words.{files_of}
+use Rattle.annbuild_words.specs.Parts.{items_of}
 use Rattle.annbuild_words.proofs.given.file_at.Given as goal
 
-abbrev pub invariant-loop-i : goal.invariant-loop-i
-invariant-loop-i l = slice_get (filter_map file_of (drop l.i (items (texts l.words)))) l.left ≡ slice_get (files_of (texts l.words)) l.number
+abbrev pub invariant-loop-part : goal.invariant-loop-part
+invariant-loop-part l = slice_get (files_of (items_of (drop l.part-index l.parts))) l.left ≡ slice_get (files_of (items_of l.parts)) l.number

@@ -1,0 +1,4 @@
+pub mod Computed
+pub mod ReadBack
+pub mod Nested
+pub mod ByClap

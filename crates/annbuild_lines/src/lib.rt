@@ -1,0 +1,18 @@
+//! How a call of the program ends, and the lines that it prints.
+//!
+//! `Fault` and `Status` say how a call ended, and `fault_line` tells it in one line. `Line` holds one printed line;
+//! making one takes no memory.
+#![tactic(auto)]
+
+mod fault;
+mod fault_lines;
+mod line;
+mod names;
+mod query_line;
+mod rules;
+
+pub use fault::{Fault, Rule, Status, What};
+pub use fault_lines::fault_line;
+pub use line::{BuiltLine, Line, built_line};
+pub use query_line::{push_query_line, query_line_bytes};
+pub use rules::{GoneRule, LabelRule};

@@ -1,9 +1,0 @@
-use Rattle.std.proofs.Common.{arith}
-use Rattle.annbuild_words.proofs.Decimals.{few_digits}
-use Rattle.annbuild_words.proofs.line.push_number.Goals as goal
-
-pub push_digits-requires : goal.push_digits-requires
-push_digits-requires c = omega (arith, c.requires, few_digits c.args.n c.ranges.n.fits)
-
-pub returns-clause-len : goal.returns-clause-len
-returns-clause-len c = omega (arith, c.push_digits.ensures.len, few_digits c.args.n c.ranges.n.fits)

@@ -1,0 +1,262 @@
+//! Words and what they mean, and the option table.
+use crate::form::form_of;
+use crate::value::{Value, default_of};
+use crate::{Asked, OptionName, SettingName, Settings, Verb, options_of, read_words, roles_of};
+use ann_defs::{Element, Kind, OrderKind, StartKind, Way};
+use std::alloc::Global;
+use std::test::Fail;
+
+/// What each row of a table should mean.
+#[derive(Clone, Copy)]
+enum Want {
+    Nothing,
+    Outside(SettingName, u64, u64, u64),
+    Accepted(Verb),
+}
+
+/// The words of a text.
+fn words_in(alloc: Global, text: &str) -> Result<Vec<String>, Fail> {
+    let mut words = Vec::new(alloc);
+    for word in text.split_whitespace() {
+        words.push(String::from_str(alloc, word)?)?;
+    }
+    Ok(words)
+}
+
+#[test]
+fn worked_words(rt: HostRuntime) -> Result<(), Fail> {
+    let rows = [
+        ("", Want::Nothing),
+        ("build", Want::Nothing),
+        ("build a", Want::Nothing),
+        ("build a b c", Want::Nothing),
+        ("build a b --degree 2 --degree 3", Want::Nothing),
+        ("build a b --degree 2 --degree=2", Want::Nothing),
+        ("build a b --bits 4", Want::Nothing),
+        ("build a b --degree x", Want::Nothing),
+        ("build a b --degree=", Want::Nothing),
+        ("build a b -v", Want::Nothing),
+        ("build a b --", Want::Nothing),
+        ("build a b --degree", Want::Nothing),
+        ("build a b --workers --degree", Want::Nothing),
+        ("build a b --alpha 12", Want::Nothing),
+        ("build a b --alpha 1/2/3", Want::Nothing),
+        ("build a b --degree +2", Want::Nothing),
+        ("build a b --degree -2", Want::Nothing),
+        ("build a b --search 4", Want::Nothing),
+        ("build a b --pool threads", Want::Nothing),
+        ("grow a b", Want::Nothing),
+        ("--degree 2 build a b", Want::Nothing),
+        ("build a b --degree=2", Want::Accepted(Verb::Build)),
+        (
+            "build --order=file a --start first b --degree 002",
+            Want::Accepted(Verb::Build),
+        ),
+        (
+            "build a b --degree 0",
+            Want::Outside(SettingName::Degree, 0, 1, 128),
+        ),
+        (
+            "build a b --beam 0 --degree 129",
+            Want::Outside(SettingName::Degree, 129, 1, 128),
+        ),
+        (
+            "build a b --alpha 9/10",
+            Want::Outside(SettingName::AlphaNum, 9, 10, 1000),
+        ),
+        (
+            "build a b --alpha 0/0",
+            Want::Outside(SettingName::AlphaDen, 0, 1, 1000),
+        ),
+        (
+            "build a b --cap 4194305",
+            Want::Outside(SettingName::Cap, 4_194_305, 1, 4_194_304),
+        ),
+        (
+            "build a b --workers 65 --cap 0",
+            Want::Outside(SettingName::Workers, 65, 1, 64),
+        ),
+        ("build a b --alpha 1/1", Want::Accepted(Verb::Build)),
+        ("build a b --alpha 1000/1", Want::Accepted(Verb::Build)),
+        (
+            "build a b --seed 18446744073709551615",
+            Want::Accepted(Verb::Build),
+        ),
+        ("build a b --seed 18446744073709551616", Want::Nothing),
+        ("query a b", Want::Nothing),
+        ("query a b c", Want::Accepted(Verb::Query)),
+        ("query a b c d", Want::Nothing),
+        ("query a b c --seed 1", Want::Nothing),
+        (
+            "query a b c --search 4 --k 5",
+            Want::Outside(SettingName::K, 5, 1, 4),
+        ),
+        (
+            "query a b c --search 0 --k 5",
+            Want::Outside(SettingName::Search, 0, 1, 1024),
+        ),
+    ];
+    for (text, want) in rows {
+        let words = words_in(rt.alloc(), text)?;
+        match (read_words(words.as_slice()), want) {
+            (Asked::Nothing, Want::Nothing) => {}
+            (Asked::For(request), Want::Accepted(verb)) => {
+                assert_eq!(rt; request.verb, verb, "{text}");
+            }
+            (
+                Asked::Outside {
+                    name,
+                    value,
+                    least,
+                    greatest,
+                },
+                Want::Outside(wanted, number, low, high),
+            ) => {
+                assert_eq!(rt; name, wanted, "{text}");
+                assert_eq!(rt; (value, least, greatest), (number, low, high), "{text}");
+            }
+            _ => panic!(rt; "{text}"),
+        }
+    }
+    Ok(())
+}
+
+#[test]
+fn what_the_program_does_not_have_is_no_request(rt: HostRuntime) -> Result<(), Fail> {
+    let rows = [
+        "build a b --kind vamana",
+        "build a b --kind hnsw",
+        "build a b --passes 1",
+        "build a b --format 1",
+        "build a b --type u8",
+        "query a b c --type u8",
+        "query a b c --label 0",
+        "check a b",
+        "make a",
+        "trial",
+        "live a b c",
+        "exact a b",
+        "recall a b c",
+        "forget a b c d",
+        "without a b c d",
+        "label a b c",
+        "find a b c d",
+    ];
+    for text in rows {
+        let words = words_in(rt.alloc(), text)?;
+        match read_words(words.as_slice()) {
+            Asked::Nothing => {}
+            _ => panic!(rt; "{text}"),
+        }
+    }
+    Ok(())
+}
+
+#[test]
+fn more_words_than_a_command_has_are_no_request(rt: HostRuntime) -> Result<(), Fail> {
+    let mut words = words_in(rt.alloc(), "build")?;
+    for _ in 0..100 {
+        words.push(String::from_str(rt.alloc(), "a")?)?;
+    }
+    match read_words(words.as_slice()) {
+        Asked::Nothing => Ok(()),
+        _ => panic!(rt; "too many names"),
+    }
+}
+
+/// The settings that words ask for, behind the first two names.
+fn settings_in(alloc: Global, text: &str) -> Result<Settings, Fail> {
+    let words = words_in(alloc, text)?;
+    match read_words(words.as_slice()) {
+        Asked::For(request) => Ok(request.settings),
+        _ => Err(Fail::from("no request")),
+    }
+}
+
+#[test]
+fn settings_and_defaults(rt: HostRuntime) -> Result<(), Fail> {
+    let query = settings_in(rt.alloc(), "query --search 1 a b --workers=7 c")?;
+    assert_eq!(rt; query.workers, 7);
+    assert_eq!(rt; query.search, 1);
+    assert_eq!(rt; query.k, 1);
+    let all = settings_in(rt.alloc(), "build a --cap 4 b")?;
+    assert_eq!(rt; all.kind, Kind::Vamana);
+    assert_eq!(rt; all.workers, 4);
+    assert_eq!(rt; all.pool, Way::Stealing);
+    assert_eq!(rt; all.seed, 0);
+    assert_eq!(rt; all.order, OrderKind::Seeded);
+    assert_eq!(rt; all.start, StartKind::Medoid);
+    assert_eq!(rt; (all.degree, all.beam), (64, 128));
+    assert_eq!(rt; (all.num, all.den), (12, 10));
+    assert_eq!(rt; all.cap, Some(4));
+    assert_eq!(rt; (all.passes, all.bits, all.max_level), (1, 4, 15));
+    assert_eq!(rt; (all.list, all.trees, all.leaf), (40, 8, 64));
+    assert_eq!(rt; (all.rounds, all.floor, all.format), (10, 0, 1));
+    assert_eq!(rt; (all.count, all.dim, all.queries), (1000, 16, 100));
+    assert_eq!(rt; (all.search, all.k), (64, 10));
+    assert_eq!(rt; (all.callers, all.label), (2, 0));
+    assert_eq!(rt; all.element, Element::U8);
+    let words = words_in(rt.alloc(), "query --k 3 x --pool rayon y z")?;
+    match read_words(words.as_slice()) {
+        Asked::For(request) => {
+            assert_eq!(rt; request.names.first, "x");
+            assert_eq!(rt; request.names.second, "y");
+            assert_eq!(rt; request.names.third, "z");
+            assert_eq!(rt; request.names.fourth, "");
+            assert_eq!(rt; request.settings.pool, Way::Shares);
+        }
+        _ => panic!(rt; "no query"),
+    }
+    Ok(())
+}
+
+#[test]
+fn shapes_of_all_commands(rt: HostRuntime) {
+    let rows = [
+        (Verb::Build, Kind::Vamana, 2, 13),
+        (Verb::Build, Kind::Hnsw, 2, 12),
+        (Verb::Build, Kind::Nnd, 2, 14),
+        (Verb::Query, Kind::Vamana, 3, 5),
+        (Verb::Check, Kind::Vamana, 2, 1),
+        (Verb::Make, Kind::Vamana, 1, 3),
+        (Verb::Trial, Kind::Vamana, 0, 16),
+        (Verb::Trial, Kind::Hnsw, 0, 15),
+        (Verb::Trial, Kind::Nnd, 0, 17),
+        (Verb::Live, Kind::Hnsw, 3, 16),
+        (Verb::Exact, Kind::Vamana, 2, 4),
+        (Verb::Recall, Kind::Vamana, 3, 5),
+        (Verb::Forget, Kind::Vamana, 4, 4),
+        (Verb::Without, Kind::Vamana, 4, 5),
+        (Verb::Label, Kind::Vamana, 3, 9),
+        (Verb::Find, Kind::Vamana, 4, 6),
+    ];
+    for (verb, kind, names, options) in rows {
+        assert_eq!(rt; roles_of(verb).len(), names, "{verb:?} {kind:?}");
+        assert_eq!(rt; options_of(verb, kind).len(), options, "{verb:?} {kind:?}");
+    }
+}
+
+/// The default of an option, where it is a number.
+fn default_number(verb: Verb, kind: Kind, option: OptionName) -> Option<u64> {
+    match default_of(form_of(verb, kind, option)) {
+        Value::Number(n) => Some(n),
+        _ => None,
+    }
+}
+
+#[test]
+fn defaults_by_command_and_kind(rt: HostRuntime) {
+    let degree = OptionName::Degree;
+    assert_eq!(rt; default_number(Verb::Build, Kind::Vamana, degree), Some(64));
+    assert_eq!(rt; default_number(Verb::Build, Kind::Hnsw, degree), Some(16));
+    assert_eq!(rt; default_number(Verb::Trial, Kind::Hnsw, degree), Some(16));
+    assert_eq!(rt; default_number(Verb::Live, Kind::Hnsw, degree), Some(64));
+    assert_eq!(rt;
+        default_number(Verb::Query, Kind::Vamana, OptionName::K),
+        None
+    );
+    assert_eq!(rt;
+        default_number(Verb::Exact, Kind::Vamana, OptionName::K),
+        Some(10)
+    );
+}
