@@ -2,30 +2,58 @@
 //! streams to the top call, and ends with its code.
 #![tactic(auto)]
 
-use ann_shelf::{DirShelf, FreeGate, StdOut};
+ghost use Rattle.std.specs.Prelude.{◌≡◌};
+ghost use Rattle.std.specs.Process.{exit_status};
+
+use ann_shelf::{DirShelf, FreeGate, NoMemory, StdOut, write_all};
 use annbuild_commands::annbuild;
+use std::alloc::Global;
 use std::env;
+use std::env::Env;
+use std::io::ErrorKind;
 use std::process::ExitCode;
+
+// The code and the line of want of memory, which the top call has too; here the words aren't read yet.
+const NO_MEMORY: u8 = 8;
+
+const NO_MEMORY_LINE: &[u8] = b"annbuild: out of memory\n";
+
+// The status that the process ends with.
+fn exit_of(code: u8) -> ExitCode
+    ensures { exit_status result ≡ code }
+{
+    ExitCode::from(code)
+}
+
+// The words after the program's own name. A command line that isn't text has none.
+fn words_of<R: Env + AllocGlobal>(rt: &R, alloc: Global) -> Result<Vec<String>, NoMemory> {
+    let mut words = Vec::new(alloc);
+    match env::args(rt) {
+        Ok(args) => {
+            for (i, word) in args.enumerate() {
+                if i > 0 {
+                    words.push(word)?;
+                }
+            }
+        }
+        Err(e) if e.kind() == ErrorKind::OutOfMemory => return Err(NoMemory),
+        Err(_) => {}
+    }
+    Ok(words)
+}
 
 fn main(rt: HostRuntime) -> ExitCode {
     let alloc = rt.alloc();
-    let mut words = Vec::new(alloc);
-    // A command line that isn't text has no words.
-    if let Ok(args) = env::args(&rt) {
-        for (i, word) in args.enumerate() {
-            if i > 0 && words.push(word).is_err() {
-                return ExitCode::from(8);
-            }
-        }
-    }
-    let Ok(folder) = String::from_str(alloc, ".") else {
-        return ExitCode::from(8);
-    };
-    let mut shelf = DirShelf::new(&rt, alloc, folder);
-    let mut out = StdOut::out(&rt);
     let mut err = StdOut::err(&rt);
+    let Ok(words) = words_of(&rt, alloc) else {
+        // Where the line can't be written, the code tells alone.
+        let _ = write_all(&mut err, NO_MEMORY_LINE);
+        return exit_of(NO_MEMORY);
+    };
+    let mut shelf = DirShelf::new(&rt, alloc, ".");
+    let mut out = StdOut::out(&rt);
     let status = annbuild(
         &rt, alloc, &words, &mut shelf, &mut out, &mut err, &FreeGate,
     );
-    ExitCode::from(status.code)
+    exit_of(status.code)
 }

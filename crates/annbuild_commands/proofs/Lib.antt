@@ -1,7 +1,7 @@
-pub mod Refusals
-pub mod Ends
-pub mod LineLists
-pub mod Same
-pub mod Tells
-pub mod Unfits
+pub mod IndexFacts
+pub mod Fits
+pub mod BuildFacts
 pub mod QueryFacts
+pub mod Tells
+pub mod TopClauses
+pub mod PoolFacts

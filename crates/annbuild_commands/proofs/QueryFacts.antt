@@ -1,25 +1,37 @@
--- What is known of the files of a query once they are read and fit together.
-use Rattle.std.proofs.Common.{◌≡◌, ◌∙◌, ℕ, List, refl, Option, None, IfSome}
+-- What is left of a query once its files are read and fit together.
+use Rattle.std.proofs.Common.{◌≡◌, ◌∙◌, ℕ, true, List, sym, ap, subst, refl, None, IfSome, Option}
+use Rattle.ann_defs.specs.Distance.{PointSet}
+use Rattle.bin_files.specs.Points.{text}
+use Rattle.bin_files.specs.Rows.{ArePoints}
 use Rattle.ann_shelf.specs.Files.{Files, bytes_of}
-use Rattle.bin_files.proofs.Pieces.{both_told}
-use Rattle.graph_files.specs.Index.{Contents}
+use Rattle.graph_rows.specs.Index.{Contents}
 use Rattle.batch_search.specs.Answers.{answers_of}
-use Rattle.annbuild_words.specs.declared.request.QueryOptions.{QueryOptions}
-use Rattle.annbuild_words.specs.declared.fault.Role.TheVariants.{Base, Index, Queries}
-use Rattle.annbuild_commands.specs.Querying.{query_refusal, unfit_in, answers_in}
-use Rattle.annbuild_commands.specs.Reading.{AreOf, IsOf}
-use Rattle.annbuild_commands.proofs.Ends.{both_pair}
-use Rattle.annbuild_commands.proofs.Refusals.{query_fit, answers_are}
+use Rattle.annbuild_words.specs.declared.request.Settings.{Settings}
+use Rattle.annbuild_words.specs.declared.role.Role.{Role}
+use Rattle.annbuild_words.specs.declared.role.Role.TheVariants.{Base, Index, Queries}
+use Rattle.bin_files.proofs.Pieces.{both_told}
+use Rattle.command_shapes.specs.Doing.{first_refused}
+use Rattle.command_shapes.specs.Reading.{AreOf, IsOf, IsPointsText}
+use Rattle.command_shapes.proofs.Told.{both_pair}
+use Rattle.command_shapes.proofs.Ending.{Leads, refusal_is}
+use Rattle.command_shapes.specs.AnswerLines.{lines_from}
+use Rattle.annbuild_commands.specs.Querying.{querying, unfit_in}
+use Rattle.annbuild_commands.proofs.Fits.{unfit_read, answers_are}
 
-pub record AreAnswered (files : Files) (base index queries : List ℕ) (X Q : List (List ℕ)) (i : Contents) (o : QueryOptions) : Type 0 where
-  pub accepted : query_refusal (bytes_of files base) (bytes_of files index) (bytes_of files queries) ≡ None
-  pub answers : answers_in (bytes_of files base) (bytes_of files index) (bytes_of files queries) o ≡ answers_of X i o.search o.k Q
+-- the file that points were read from is their text
+pub points_text : (role : Role) (file : List ℕ) (X : PointSet) → AreOf role file X → IsPointsText file
+points_text role file X of = (subst (λ (Y : PointSet). ArePoints Y.vectors) of.points_are of.limits, of.text_is ∙ ap text of.points_are)
 
-pub query_told : (held : Option Files) (base index queries : List ℕ) (X Q : List (List ℕ)) (i : Contents) (o : QueryOptions)
+pub query_leads : (held : Option Files) (base index queries : List ℕ) (X Q : PointSet) (i : Contents) (o : Settings)
     → IfSome held (λ files. AreOf Base (bytes_of files base) X) → IfSome held (λ files. IsOf Index (bytes_of files index) i) → IfSome held (λ files. AreOf Queries (bytes_of files queries) Q)
-    → unfit_in X i Q ≡ None → IfSome held (λ files. AreAnswered files base index queries X Q i o)
-query_told held base index queries X Q i o points is asked fit =
-    both_told held held refl (both_pair (λ files. AreOf Base (bytes_of files base) X) (λ files. IsOf Index (bytes_of files index) i) held held refl points is) asked (λ files both of. record {
-      accepted = query_fit (bytes_of files base) (bytes_of files index) (bytes_of files queries) X Q i both.0 both.1 of ∙ fit;
-      answers = answers_are (bytes_of files base) (bytes_of files index) (bytes_of files queries) X Q i o both.0 both.1 of;
+    → IfSome held (λ files. first_refused (querying base index queries o).reads files ≡ None)
+    → unfit_in X.vectors i Q.vectors ≡ None → IfSome held (Leads (querying base index queries o) None (λ run. true) (λ run. lines_from 0 (answers_of X.vectors i o.search o.k Q.vectors)))
+query_leads held base index queries X Q i o points is asked read fit =
+    both_told held held refl (both_pair (λ files. AreOf Base (bytes_of files base) X) (λ files. IsOf Index (bytes_of files index) i) held held refl points is)
+    (both_pair (λ files. AreOf Queries (bytes_of files queries) Q) (λ files. first_refused (querying base index queries o).reads files ≡ None) held held refl asked read) (λ files a b. record {
+      accepted = refusal_is (querying base index queries o) files b.1 ∙ unfit_read (bytes_of files base) (bytes_of files index) (bytes_of files queries) X Q i a.0 a.1 b.0 ∙ fit;
+      meant = (points_text Base (bytes_of files base) X a.0, points_text Queries (bytes_of files queries) Q b.0);
+      stored = refl;
+      runs = λ run e. e;
+      prints = λ run. ap (lines_from 0) (sym (answers_are (bytes_of files base) (bytes_of files index) (bytes_of files queries) X Q i a.0 a.1 b.0 o));
     })

@@ -7,8 +7,8 @@ use Rattle.ann_shelf.specs.declared.slip.Slip.{Slip}
 use Rattle.ann_shelf.specs.declared.slip.Slip.TheVariants.{Failed, NoMemory as NoSlipMemory}
 use Rattle.ann_shelf.specs.Written.{GotSome}
 use Rattle.bin_files.proofs.Pieces.{told_then}
-use Rattle.annbuild_words.specs.Lines.{fault_text}
-use Rattle.annbuild_words.specs.declared.fault.Fault.{Fault}
+use Rattle.annbuild_lines.specs.Lines.{fault_text}
+use Rattle.annbuild_lines.specs.declared.fault.Fault.{Fault}
 use Rattle.annbuild_commands.specs.Ending.{fault_line, TellsOf}
 
 text_is : (fault : Fault) → fault_text fault ≡ fault_line fault

@@ -1,10 +1,9 @@
 -- What the words mean, as a condition of what is said of a call, and the line of a fault.
-use Rattle.std.specs.Prelude.{◌≡◌, ◌⊎◌, ℕ, ◌<◌, List, ◌++◌, length, take, Option, Some}
+use Rattle.std.specs.Prelude.{◌≡◌, ◌⊎◌, ℕ, ◌<◌, List, ◌++◌, length, take}
 use Rattle.annbuild_words.specs.Asked.{Command, Meaning}
 use Rattle.annbuild_words.specs.Asked.Meaning.{Means}
-use Rattle.annbuild_words.specs.Lines.{fault_text}
-use Rattle.annbuild_words.specs.declared.fault.Fault.{Fault}
-use Rattle.annbuild_words.specs.declared.fault.Fault.TheVariants.{NoMemory}
+use Rattle.annbuild_lines.specs.Lines.{fault_text}
+use Rattle.annbuild_lines.specs.declared.fault.Fault.{Fault}
 
 -- P of the command that the words mean, if they mean one
 abbrev pub OnCommand : Meaning → (Command → Type 0) → Type 0
@@ -15,10 +14,6 @@ OnCommand meaning P = Unit {0}
 abbrev pub IsNoCommand : Meaning → Type 0
 IsNoCommand (Means command) = ⊥
 IsNoCommand meaning = Unit {0}
-
--- the fault is the refusal that the files show, none where they show none; or there was no memory
-abbrev pub IsShownOrNoMemory : (shown fault : Option Fault) → Type 0
-IsShownOrNoMemory shown fault = (fault ≡ shown) ⊎ (fault ≡ Some NoMemory)
 
 -- the line of a fault
 unfoldable pub fault_line : Fault → List ℕ

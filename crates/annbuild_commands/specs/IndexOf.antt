@@ -1,31 +1,25 @@
 -- The index that a build must give. No number of workers and no pool is among what it depends on.
-use Rattle.std.specs.Prelude.{ℕ, ◌+◌, ◌*◌, ◌==◌, if◌then◌else◌, Option, List, length, slice_index}
+use Rattle.std.specs.Prelude.{ℕ, ◌+◌, ◌*◌, ◌==◌, if◌then◌else◌, List, length, slice_index}
 use Rattle.ann_defs.specs.Distance.{dim_of}
 use Rattle.ann_defs.specs.BatchInsert.{Build, cap_of, total_of, graph_after}
-use Rattle.ann_defs.specs.declared.kinds.OrderKind.{OrderKind}
-use Rattle.ann_defs.specs.declared.kinds.StartKind.{StartKind}
 use Rattle.ann_defs.specs.declared.kinds.Kind.{Kind}
 use Rattle.ann_defs.specs.declared.kinds.Kind.TheVariants.{Vamana, Hnsw, Nnd}
-use Rattle.graph_files.specs.Index.{Contents, flat_contents, edges_of, text_of}
+use Rattle.graph_rows.specs.Index.{Contents, flat_contents, edges_of, text_of}
 use Rattle.seeded_order.specs.Order.{insertion_order}
-use Rattle.annbuild_words.specs.declared.request.BuildOptions.{BuildOptions}
-use Rattle.annbuild_words.specs.declared.line.BuiltLine.{BuiltLine}
-use Rattle.annbuild_words.specs.Lines.{built_text}
+use Rattle.annbuild_words.specs.declared.request.Settings.{Settings}
+use Rattle.annbuild_lines.specs.declared.line.BuiltLine.{BuiltLine}
+use Rattle.annbuild_lines.specs.Lines.{built_text}
 
--- the Vamana index of a point set: its order, start, seed, degree, beam, alpha and cap decide it
-abbrev pub index_with : List (List ℕ) → OrderKind → StartKind → ℕ → ℕ → ℕ → ℕ → ℕ → Option ℕ → Contents
-index_with X order start seed degree beam num den cap =
-    let ids = insertion_order X order start seed in
-    let first = slice_index ids 0 in
-    let b : Build = record { points = X; start = first; beam = beam; num = num; den = den; degree = degree } in
-    flat_contents 1 (length X) (dim_of X) degree first (graph_after b ids (cap_of (length X) cap) (total_of (length X) (cap_of (length X) cap)))
-
--- the index that a build with these options must give
-unfoldable pub index_of : List (List ℕ) → BuildOptions → Contents
-index_of X o = index_with X o.order o.start o.seed o.degree o.beam o.num o.den o.cap
+-- the index that a build of a point set with these settings must give: its order, start, seed, degree, beam, alpha and cap decide it
+unfoldable pub index_of : List (List ℕ) → Settings → Contents
+index_of X o =
+    let ids = insertion_order X o.order o.start o.seed in
+    let cap = cap_of (length X) o.cap in
+    let b : Build = record { points = X; start = slice_index ids 0; beam = o.beam; num = o.num; den = o.den; degree = o.degree; passes = 1 } in
+    flat_contents 1 (length X) (dim_of X) o.degree (slice_index ids 0) (graph_after b ids cap (total_of (length X) cap))
 
 -- the words that the rows of so many points take
-abbrev pub words_of : ℕ → BuildOptions → ℕ
+abbrev pub words_of : ℕ → Settings → ℕ
 words_of n o = n * (o.degree + 1)
 
 -- the kind with this code

@@ -1,36 +1,33 @@
 //! `build`: the index of a file of points, from bytes to bytes.
-ghost use Rattle.std.specs.Prelude.{◌≡◌, ◌+◌, ◌++◌, ◌*◌, ◌<◌, ◌≤◌, ℕ, List, Some, None, length, IfOk, IfErr, IfSome, OnOk, OnErr};
-ghost use Rattle.ann_shelf.specs.Faults.{Rose, NoneFell};
-ghost use Rattle.ann_shelf.specs.Files.{Files, bytes_of, with_file};
+ghost use Rattle.std.specs.Prelude.{◌≡◌, ◌+◌, ◌*◌, ◌<◌, ◌≤◌, [], ◌∷◌, Some, length, IfOk, IfErr, IfSome, OnOk};
+ghost use Rattle.ann_shelf.specs.Files.{bytes_of};
 ghost use Rattle.vamana_build.specs.Builds.{batches_of};
-ghost use Rattle.graph_files.specs.View.{contents};
-ghost use Rattle.graph_files.specs.WellFormed.{IsWellFormed};
-ghost use Rattle.annbuild_words.specs.Asked.{AreInRange};
-ghost use Rattle.annbuild_words.specs.Asked.Command.{Builds};
-ghost use Rattle.annbuild_commands.specs.IndexOf.{index_of, file_of, line_of, words_of};
-ghost use Rattle.annbuild_commands.specs.Building.{build_refusal, IsIndexOf, IsInOrder, IsOfWriting, LeavesFile, LeavesLine};
-ghost use Rattle.annbuild_commands.specs.Commands.{Stores, Prints, refusal, Tells, HasCause, Leaves, LeavesOut, WritesInOrder, WritesIfAccepted, IsBeforeWriting};
+ghost use Rattle.graph_rows.specs.View.{contents};
+ghost use Rattle.graph_rows.specs.WellFormed.{IsWellFormed};
+ghost use Rattle.annbuild_words.specs.Settings.{IsInRange};
+ghost use Rattle.annbuild_words.specs.declared.request.Verb.TheVariants as verbs;
+ghost use Rattle.annbuild_words.specs.declared.role.Role.TheVariants as roles;
+ghost use Rattle.ann_shelf.specs.Written.{Got};
+ghost use Rattle.command_shapes.specs.Ends.{Ends, HaveRead, fault_in};
+ghost use Rattle.command_shapes.specs.Reading.{points_read};
+ghost use Rattle.annbuild_commands.specs.IndexOf.{index_of, line_of, words_of};
+ghost use Rattle.annbuild_commands.specs.Building.{building, IsIndexOf};
 
-use crate::faults::write_fault;
-use crate::files::read_points_of;
-use ann_defs::Alpha;
-use ann_shelf::{Gate, NoMemory, Out, Quantity, Shelf, write_all};
-use annbuild_words::{
-    BuildOptions, BuildRequest, BuiltLine, Fault, Line, PoolKind, Role, built_line,
-};
+use ann_defs::{Alpha, MAX_WORDS};
+use ann_shelf::{Gate, NoMemory, Out, Quantity, Shelf};
+use annbuild_lines::{BuiltLine, Fault, Line, built_line};
+use annbuild_words::{Request, Role, Settings};
 use bin_files::Points;
-use graph_files::{Index, write_index};
+use command_shapes::{read_points_of, store_and_print};
+use graph_rows::Index;
 use std::alloc::Global;
 use std::thread::Threads;
-use steal_pool::{RayonRounds, Rounds, SerialRounds, StealRounds};
+use steal_pool::{Pool, Rounds};
 use vamana_build::{Plan, Vamana, VamanaSettings};
 
-/// The greatest number of words that the rows of an index take.
-const MAX_WORDS: u64 = 134217728;
-
 /// The settings of the builder.
-fn settings_of(options: &BuildOptions) -> VamanaSettings
-    requires { AreInRange options.now }
+fn settings_of(options: &Settings) -> VamanaSettings
+    requires { IsInRange verbs.Build options.now }
     ensures order { result.order ≡ options.now.order }
     ensures start { result.start ≡ options.now.start }
     ensures seed { result.seed ≡ options.now.seed }
@@ -76,12 +73,12 @@ fn index_on<R: Threads + Sync, P: Rounds, G: Gate + Sync>(
     rt: &R,
     alloc: Global,
     points: &Points,
-    options: &BuildOptions,
+    options: &Settings,
     pool: &mut P,
     gate: &G,
 ) -> Result<Index, NoMemory>
-    requires options { AreInRange options.now }
-    requires words { words_of (length points.now.vectors) options.now ≤ 134217728 }
+    requires options { IsInRange verbs.Build options.now }
+    requires words { words_of (length points.now.vectors) options.now ≤ MAX_WORDS }
     requires workers { (1 ≤ P.count pool.old) × (P.count pool.old ≤ 64) }
     ensures index { IfOk result (λ i. contents i ≡ index_of points.now.vectors options.now) }
     ensures well_formed { IfOk result (λ i. IsWellFormed (contents i)) }
@@ -92,35 +89,6 @@ fn index_on<R: Threads + Sync, P: Rounds, G: Gate + Sync>(
         put_next(rt, alloc, &mut builder, pool, gate)?;
     }
     Ok(builder.into_index())
-}
-
-/// Builds the index on the pool that is asked for. The serial pool uses one worker.
-fn index_by<R: Threads + Sync, G: Gate + Sync>(
-    rt: &R,
-    alloc: Global,
-    points: &Points,
-    options: &BuildOptions,
-    gate: &G,
-) -> Result<Index, NoMemory>
-    requires options { AreInRange options.now }
-    requires words { words_of (length points.now.vectors) options.now ≤ 134217728 }
-    ensures index { IfOk result (λ i. contents i ≡ index_of points.now.vectors options.now) }
-    ensures well_formed { IfOk result (λ i. IsWellFormed (contents i)) }
-{
-    match options.pool {
-        PoolKind::Serial => {
-            let mut pool = SerialRounds::new();
-            index_on(rt, alloc, points, options, &mut pool, gate)
-        }
-        PoolKind::Rayon => {
-            let mut pool = RayonRounds::new(options.workers);
-            index_on(rt, alloc, points, options, &mut pool, gate)
-        }
-        PoolKind::Steal => {
-            let mut pool = StealRounds::new(options.workers);
-            index_on(rt, alloc, points, options, &mut pool, gate)
-        }
-    }
 }
 
 /// The line of a build.
@@ -143,26 +111,18 @@ fn line(index: &Index) -> Line
 fn prepared<R: Threads + Sync, F: Shelf, G: Gate + Sync>(
     rt: &R,
     alloc: Global,
-    base: &str,
-    _name: &str,
-    options: &BuildOptions,
+    request: &Request<'_>,
     shelf: &mut F,
     gate: &G,
 ) -> Result<Index, Fault>
-    requires { AreInRange options.now }
-    ensures index { IfOk result (λ i. IfSome (F.held shelf.old) (λ files. IsIndexOf (bytes_of files base.now) options.now (contents i))) }
+    requires { IsInRange verbs.Build request.now.settings }
+    ensures index { IfOk result (λ i. IfSome (F.shown shelf.old).held (λ files. IsIndexOf (bytes_of files request.now.names.first.now) request.now.settings (contents i))) }
     ensures well_formed { IfOk result (λ i. IsWellFormed (contents i)) }
-    ensures tells { IfErr result (λ fault. IfSome (F.held shelf.old) (λ files. Tells (Builds base.now _name.now options.now) files fault)) }
-    ensures cause { IfErr result (HasCause (Builds base.now _name.now options.now) (λ name. Rose (F.read_faults shelf.old name) (F.read_faults shelf.new name)) (λ name. ⊥) ⊥) }
-    ensures same { F.held shelf.new ≡ F.held shelf.old }
-    ensures reads { NoneFell (F.read_faults shelf.old) (F.read_faults shelf.new) }
-    ensures writes { NoneFell (F.write_faults shelf.old) (F.write_faults shelf.new) }
+    ensures read { OnOk result (HaveRead (points_read roles.Base request.now.names.first.now ∷ []) (F.shown shelf.old) (F.shown shelf.new)) }
+    ensures failed { IfErr result (λ fault. (had : Got) → Ends (building request.now.names.first.now request.now.names.second.now request.now.settings) (F.shown shelf.old) (F.shown shelf.new) had had (Some fault)) }
 {
-    let points = match read_points_of(alloc, shelf, Role::Base, base) {
-        Ok(points) => points,
-        Err(fault) => return Err(fault),
-    };
-    let words = u64::from(points.count()) * (u64::from(options.degree) + 1);
+    let points = read_points_of(alloc, shelf, Role::Base, request.names.first)?;
+    let words = u64::from(points.count()) * (u64::from(request.settings.degree) + 1);
     if words > MAX_WORDS {
         return Err(Fault::TooLarge {
             name: Quantity::Words,
@@ -170,89 +130,33 @@ fn prepared<R: Threads + Sync, F: Shelf, G: Gate + Sync>(
             limit: MAX_WORDS,
         });
     }
-    match index_by(rt, alloc, &points, options, gate) {
+    let mut pool = Pool::new(request.settings.pool, request.settings.workers);
+    match index_on(rt, alloc, &points, &request.settings, &mut pool, gate) {
         Ok(index) => Ok(index),
         Err(NoMemory) => Err(Fault::NoMemory),
     }
 }
 
-/// Writes an index, and tells of it.
-fn written<F: Shelf, O: Out>(
-    _base: &str,
-    name: &str,
-    index: &Index,
-    _options: &BuildOptions,
-    shelf: &mut F,
-    out: &mut O,
-) -> Result<(), Fault>
-    requires { IsWellFormed (contents index.now) }
-    ensures file { OnOk result (IfSome (F.held shelf.old) (λ files. F.held shelf.new ≡ Some (with_file files name.now (file_of (contents index.now))))) }
-    ensures line { OnOk result (IfSome (O.written out.old) (λ before. O.written out.new ≡ Some (before ++ line_of (contents index.now)))) }
-    ensures cause { IfErr result (HasCause (Builds _base.now name.now _options.now) (λ file. ⊥) (λ file. Rose (F.write_faults shelf.old file) (F.write_faults shelf.new file)) (Rose (O.faults out.old) (O.faults out.new))) }
-    ensures writing { IfErr result IsOfWriting }
-    ensures leaves { IfErr result (λ fault. IfSome (F.held shelf.old) (λ files. (after : Files) × (F.held shelf.new ≡ Some after)
-        × LeavesFile files after name.now (file_of (contents index.now)) fault)) }
-    ensures leaves_out { IfErr result (λ fault. IfSome (O.written out.old) (λ before. (after : List ℕ) × (O.written out.new ≡ Some after)
-        × LeavesLine (Rose (O.wants out.old) (O.wants out.new)) before after (line_of (contents index.now)) fault)) }
-    ensures in_order { OnErr result (IfSome (F.held shelf.old) (λ files. IsInOrder files (F.held shelf.new) name.now (file_of (contents index.now)) (O.written out.old) (O.written out.new))) }
-    ensures reads { NoneFell (F.read_faults shelf.old) (F.read_faults shelf.new) }
-{
-    let told = line(index);
-    match write_index(shelf, name, index) {
-        Ok(()) => {}
-        Err(slip) => return Err(write_fault(Role::Index, slip)),
-    }
-    match write_all(out, told.as_slice()) {
-        Ok(()) => Ok(()),
-        Err(slip) => Err(write_fault(Role::Output, slip)),
-    }
-}
-
-/// Builds the index of a file of points, writes it, and tells of it.
+/// Builds the index of a file of points, stores it, and tells of it.
 pub(crate) fn build<R: Threads + Sync, F: Shelf, O: Out, G: Gate + Sync>(
     rt: &R,
     alloc: Global,
-    request: &BuildRequest<'_>,
+    request: &Request<'_>,
     shelf: &mut F,
     out: &mut O,
     gate: &G,
 ) -> Result<(), Fault>
-    requires { AreInRange request.now.options }
-    ensures stored { OnOk result (IfSome (F.held shelf.old) (λ files. Stores (Builds request.now.base.now request.now.index.now request.now.options) files (F.held shelf.new))) }
-    ensures printed { OnOk result (IfSome (F.held shelf.old) (λ files. IfSome (O.written out.old) (λ before. Prints (Builds request.now.base.now request.now.index.now request.now.options) files before (O.written out.new)))) }
-    ensures accepted { OnOk result (IfSome (F.held shelf.old) (λ files. refusal (Builds request.now.base.now request.now.index.now request.now.options) files ≡ None)) }
-    ensures cause { IfErr result (HasCause (Builds request.now.base.now request.now.index.now request.now.options) (λ name. Rose (F.read_faults shelf.old name) (F.read_faults shelf.new name))
-        (λ name. Rose (F.write_faults shelf.old name) (F.write_faults shelf.new name)) (Rose (O.faults out.old) (O.faults out.new))) }
-    ensures tells { IfErr result (λ fault. IfSome (F.held shelf.old) (λ files. Tells (Builds request.now.base.now request.now.index.now request.now.options) files fault)) }
-    ensures leaves { IfErr result (λ fault. IfSome (F.held shelf.old) (λ files. (after : Files) × (F.held shelf.new ≡ Some after)
-        × Leaves (Builds request.now.base.now request.now.index.now request.now.options) files after fault)) }
-    ensures leaves_out { IfErr result (λ fault. IfSome (F.held shelf.old) (λ files. IfSome (O.written out.old) (λ before. (after : List ℕ) × (O.written out.new ≡ Some after)
-        × LeavesOut (Builds request.now.base.now request.now.index.now request.now.options) (Rose (O.wants out.old) (O.wants out.new)) files before after fault))) }
-    ensures in_order { OnErr result (IfSome (F.held shelf.old) (λ files. WritesInOrder (Builds request.now.base.now request.now.index.now request.now.options) files (F.held shelf.new) (O.written out.old) (O.written out.new))) }
-    ensures only_accepted { IfSome (F.held shelf.old) (λ files. WritesIfAccepted (Builds request.now.base.now request.now.index.now request.now.options) files (F.held shelf.new) (O.written out.old) (O.written out.new)) }
-    ensures as_found { IfErr result (λ fault. IsBeforeWriting fault → (F.held shelf.new ≡ F.held shelf.old) × (O.written out.new ≡ O.written out.old)) }
+    requires { IsInRange verbs.Build request.now.settings }
+    ensures { Ends (building request.now.names.first.now request.now.names.second.now request.now.settings) (F.shown shelf.old) (F.shown shelf.new) (O.got out.old) (O.got out.new) (fault_in result) }
 {
-    let index = match prepared(
-        rt,
-        alloc,
-        request.base,
-        request.index,
-        &request.options,
-        shelf,
-        gate,
-    ) {
-        Ok(index) => index,
-        Err(fault) => return Err(fault),
-    };
-    match written(
-        request.base,
-        request.index,
-        &index,
-        &request.options,
+    let index = prepared(rt, alloc, request, shelf, gate)?;
+    let told = line(&index);
+    store_and_print(
         shelf,
         out,
-    ) {
-        Ok(()) => Ok(()),
-        Err(fault) => Err(fault),
-    }
+        Role::Index,
+        request.names.second,
+        &index,
+        told.as_slice(),
+    )
 }

@@ -7,14 +7,15 @@
 #![tactic(auto)]
 
 mod build;
-mod faults;
-mod files;
+mod carried;
 mod inputs;
-mod lines;
+mod plain;
 mod query;
 mod request;
 mod told;
 mod top;
 
-pub use annbuild_words::{Fault, Role, Rule, SettingName, Status, What};
+pub use annbuild_lines::{Fault, Rule, Status, What};
+pub use annbuild_words::{Role, SettingName};
+pub use plain::run_plain;
 pub use top::annbuild;

@@ -1,8 +1,8 @@
 use Rattle.std.proofs.Common.{◌≡◌, ◌+◌, arith, length}
 use Rattle.std.proofs.lemmas.List.{length-map}
-use Rattle.graph_files.specs.View.{contents}
-use Rattle.graph_files.specs.Layers.{Layered}
-use Rattle.annbuild_commands.proofs.Ends.{told_line, kind_back}
+use Rattle.graph_rows.specs.View.{contents}
+use Rattle.graph_rows.specs.Layers.{Layered}
+use Rattle.annbuild_commands.proofs.IndexFacts.{told_line, kind_back}
 use Rattle.annbuild_commands.proofs.build.line.Goals as goal
 use Rattle.std.proofs.Common.{◌∙◌}
 

@@ -1,25 +1,27 @@
-use Rattle.std.proofs.Common.{refl, sym}
-use Rattle.bin_files.proofs.Pieces.{both_told}
+use Rattle.std.proofs.Common.{◌∙◌, sym, refl, Some}
 use Rattle.ann_shelf.specs.Files.{bytes_of}
-use Rattle.ann_shelf.specs.Faults.{Rose}
-use Rattle.graph_files.specs.View.{contents}
-use Rattle.annbuild_words.specs.Asked.Command.{Queries as Queried}
-use Rattle.annbuild_commands.proofs.Ends.{both_pair}
-use Rattle.annbuild_commands.proofs.Refusals.{query_fit}
-use Rattle.annbuild_commands.proofs.Unfits.{unfit_tells, unfit_cause}
+use Rattle.bin_files.proofs.Pieces.{both_told}
+use Rattle.graph_rows.specs.View.{contents}
+use Rattle.annbuild_words.specs.declared.role.Role.TheVariants.{Base, Index}
+use Rattle.ann_shelf.specs.Written.{Got}
+use Rattle.command_shapes.specs.Ends.{Ends}
+use Rattle.command_shapes.specs.Reading.{AreOf, IsOf}
+use Rattle.command_shapes.proofs.Told.{on_fault, both_pair}
+use Rattle.command_shapes.proofs.Ending.{fails_rest}
+use Rattle.annbuild_commands.specs.Querying.{querying}
+use Rattle.annbuild_commands.proofs.Fits.{unfit_only, unfit_read}
 use Rattle.annbuild_commands.proofs.inputs.read_inputs.Goals as goal
 
-pub returns-in-Some-clause-tells : goal.returns-in-Some-clause-tells
-returns-in-Some-clause-tells g c =
-    both_told (g.F.Shelf.held c.args.shelf.now) (g.F.Shelf.held c.args.shelf.now) refl
-    (both_pair _ _ (g.F.Shelf.held c.args.shelf.now) (g.F.Shelf.held c.args.shelf.now) refl c.in-Ok.ensures.points c.in-Ok.ensures.index)
-    c.in-Ok.ensures.queries (λ files both asked.
-    unfit_tells (Queried c.args.request.now.base.now c.args.request.now.index.now c.args.request.now.queries.now c.args.request.now.options) files
-    c.in-Ok.inputs.points.vectors (contents c.in-Ok.inputs.index) c.in-Ok.inputs.queries.vectors c.in-Some.fault (sym c.in-Some.ensures)
-    (query_fit (bytes_of files c.args.request.now.base.now) (bytes_of files c.args.request.now.index.now) (bytes_of files c.args.request.now.queries.now)
-    c.in-Ok.inputs.points.vectors c.in-Ok.inputs.queries.vectors (contents c.in-Ok.inputs.index) both.0 both.1 asked))
+pub returns-in_err-inputs-clause-failed : goal.returns-in_err-inputs-clause-failed
+returns-in_err-inputs-clause-failed g c = on_fault c.from_residual.result _ (λ fault. (had : Got) → Ends (querying c.args.request.now.names.first.now c.args.request.now.names.second.now c.args.request.now.names.third.now c.args.request.now.settings) (g.F.Shelf.shown c.args.shelf.now) (g.F.Shelf.shown c.read_files.new.shelf) had had (Some fault)) c.from_residual.ensures.1 c.in_err-inputs.ensures.failed
 
-pub returns-in-Some-clause-cause : goal.returns-in-Some-clause-cause
-returns-in-Some-clause-cause g c = unfit_cause (Queried c.args.request.now.base.now c.args.request.now.index.now c.args.request.now.queries.now c.args.request.now.options)
-    (λ name. Rose (g.F.Shelf.read_faults c.args.shelf.now name) (g.F.Shelf.read_faults c.read_files.new.shelf name)) (λ name. ⊥) ⊥
-    c.in-Ok.inputs.points.vectors (contents c.in-Ok.inputs.index) c.in-Ok.inputs.queries.vectors c.in-Some.fault (sym c.in-Some.ensures)
+pub returns-in-Some-clause-failed : goal.returns-in-Some-clause-failed
+returns-in-Some-clause-failed g c had =
+    let X = c.in_ok-inputs.inputs.points in
+    let i = contents c.in_ok-inputs.inputs.index in
+    let Q = c.in_ok-inputs.inputs.queries in
+    fails_rest (querying c.args.request.now.names.first.now c.args.request.now.names.second.now c.args.request.now.names.third.now c.args.request.now.settings) (g.F.Shelf.shown c.args.shelf.now) (g.F.Shelf.shown c.read_files.new.shelf) had c.in-Some.fault (unfit_only X.vectors i Q.vectors c.in-Some.fault (sym c.in-Some.ensures)) c.in_ok-inputs.ensures.read
+    (both_told (g.F.Shelf.shown c.args.shelf.now).held (g.F.Shelf.shown c.args.shelf.now).held refl
+    (both_pair (λ files. AreOf Base (bytes_of files c.args.request.now.names.first.now) X) (λ files. IsOf Index (bytes_of files c.args.request.now.names.second.now) i) (g.F.Shelf.shown c.args.shelf.now).held (g.F.Shelf.shown c.args.shelf.now).held refl c.in_ok-inputs.ensures.points c.in_ok-inputs.ensures.index)
+    c.in_ok-inputs.ensures.queries (λ files both of.
+    unfit_read (bytes_of files c.args.request.now.names.first.now) (bytes_of files c.args.request.now.names.second.now) (bytes_of files c.args.request.now.names.third.now) X Q i both.0 both.1 of ∙ sym c.in-Some.ensures))

@@ -1,22 +1,19 @@
-use Rattle.std.proofs.Common.{◌≡◌, Some, IfSome, sym, subst}
-use Rattle.std.specs.Prelude.{IfErr}
-use Rattle.ann_shelf.specs.Files.{Files}
-use Rattle.annbuild_words.specs.Asked.{command_of}
-use Rattle.annbuild_commands.specs.Commands.{Leaves, WritesIfAccepted}
+use Rattle.std.proofs.Common.{rules, sym, subst}
+use Rattle.annbuild_words.specs.Settings.{IsInRange}
+use Rattle.command_shapes.specs.Ends.{Ends, fault_in}
+use Rattle.annbuild_commands.specs.Commands.{doing_by}
 use Rattle.annbuild_commands.proofs.request.done.Goals as goal
 
-pub returns-in-Build-clause-leaves : goal.returns-in-Build-clause-leaves
-returns-in-Build-clause-leaves g c = subst (λ r. IfErr c.build.result (λ fault. IfSome (g.F.Shelf.held c.args.shelf.now) (λ files. (after : Files) × (g.F.Shelf.held c.build.new.shelf ≡ Some after)
-    × Leaves (command_of r) files after fault))) (sym c.in-Build.is) c.build.ensures.leaves
+pub build-requires : goal.build-requires
+build-requires g c = let h = subst (λ v. IsInRange v c.args.request.now.settings) c.in-Build.is c.requires.in_range in search rules
 
-pub returns-in-Query-clause-leaves : goal.returns-in-Query-clause-leaves
-returns-in-Query-clause-leaves g c = subst (λ r. IfErr c.query.result (λ fault. IfSome (g.F.Shelf.held c.args.shelf.now) (λ files. (after : Files) × (g.F.Shelf.held c.query.new.shelf ≡ Some after)
-    × Leaves (command_of r) files after fault))) (sym c.in-Query.is) c.query.ensures.leaves
+pub query-requires : goal.query-requires
+query-requires g c = let h = subst (λ v. IsInRange v c.args.request.now.settings) c.in-Query.is c.requires.in_range in search rules
 
-pub returns-in-Build-clause-only_accepted : goal.returns-in-Build-clause-only_accepted
-returns-in-Build-clause-only_accepted g c = subst (λ r. IfSome (g.F.Shelf.held c.args.shelf.now) (λ files. WritesIfAccepted (command_of r) files (g.F.Shelf.held c.build.new.shelf) (g.O.Out.written c.args.out.now) (g.O.Out.written c.build.new.out)))
-    (sym c.in-Build.is) c.build.ensures.only_accepted
+pub returns-in-Build : goal.returns-in-Build
+returns-in-Build g c = subst (λ v. Ends (doing_by v c.args.request.now.names.first.now c.args.request.now.names.second.now c.args.request.now.names.third.now c.args.request.now.names.fourth.now c.args.request.now.settings)
+    (g.F.Shelf.shown c.args.shelf.now) (g.F.Shelf.shown c.build.new.shelf) (g.O.Out.got c.args.out.now) (g.O.Out.got c.build.new.out) (fault_in c.build.result)) (sym c.in-Build.is) c.build.ensures
 
-pub returns-in-Query-clause-only_accepted : goal.returns-in-Query-clause-only_accepted
-returns-in-Query-clause-only_accepted g c = subst (λ r. IfSome (g.F.Shelf.held c.args.shelf.now) (λ files. WritesIfAccepted (command_of r) files (g.F.Shelf.held c.query.new.shelf) (g.O.Out.written c.args.out.now) (g.O.Out.written c.query.new.out)))
-    (sym c.in-Query.is) c.query.ensures.only_accepted
+pub returns-in-Query : goal.returns-in-Query
+returns-in-Query g c = subst (λ v. Ends (doing_by v c.args.request.now.names.first.now c.args.request.now.names.second.now c.args.request.now.names.third.now c.args.request.now.names.fourth.now c.args.request.now.settings)
+    (g.F.Shelf.shown c.args.shelf.now) (g.F.Shelf.shown c.query.new.shelf) (g.O.Out.got c.args.out.now) (g.O.Out.got c.query.new.out) (fault_in c.query.result)) (sym c.in-Query.is) c.query.ensures

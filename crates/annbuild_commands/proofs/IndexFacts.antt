@@ -1,0 +1,70 @@
+-- The index that a build gives, its line, and the words of its rows.
+use Rattle.std.proofs.Common.{◌≡◌, ◌∙◌, ◌≤◌, ◌<◌, ℕ, List, length, refl, sym, ap, arith, Some, None, true, false, cond, nat_lt}
+use Rattle.std.specs.Prelude.{◌&&◌, ◌==◌}
+use Rattle.std.proofs.lemmas.Bool.{ltb-true, ltb-false}
+use Rattle.std.proofs.lemmas.Bool.Decides.{nat_tests}
+use Rattle.ann_defs.proofs.Members.{and_both}
+use Rattle.ann_defs.specs.declared.limits.TheConstants.{MAX_WORDS}
+use Rattle.ann_defs.specs.declared.kinds.Kind.{Kind}
+use Rattle.ann_defs.specs.declared.kinds.Kind.TheVariants.{Vamana, Hnsw, Nnd}
+use Rattle.ann_shelf.specs.declared.slip.Quantity.TheVariants.{Words}
+use Rattle.graph_rows.specs.Index.{Contents, text_of, edges_of}
+use Rattle.graph_rows.specs.View.{kind_code}
+use Rattle.graph_rows.specs.WellFormed.{layers_fit}
+use Rattle.vamana_build.specs.declared.settings.VamanaSettings.{VamanaSettings}
+use Rattle.vamana_build.specs.Builds.{order_of}
+use Rattle.vamana_build.specs.VamanaIndex.{vamana_index}
+use Rattle.annbuild_lines.specs.Lines.{built_text}
+use Rattle.annbuild_lines.specs.declared.fault.Fault.TheVariants.{TooLarge}
+use Rattle.annbuild_words.specs.declared.request.Settings.{Settings}
+use Rattle.annbuild_commands.specs.IndexOf.{index_of, file_of, line_of, told_of, kind_at}
+use Rattle.annbuild_commands.specs.Building.{words_refusal}
+
+pub file_is : (i : Contents) → text_of i ≡ file_of i
+unfolding file_of
+file_is i = refl
+
+pub line_is : (i : Contents) → built_text (told_of i) ≡ line_of i
+unfolding line_of
+line_is i = refl
+
+-- the kind with a kind's code is that kind
+pub kind_back : (k : Kind) → kind_at (kind_code k) ≡ k
+kind_back Vamana = refl
+kind_back Hnsw = refl
+kind_back Nnd = refl
+
+-- a kind has at most sixteen layers
+pub few_layers : (kind layers : ℕ) → layers_fit kind layers ≡ true → layers ≤ 16
+few_layers kind layers h =
+    elim (kind == 2) as (λ b. cond b (nat_lt 0 layers && nat_lt layers 17) (layers == 1) ≡ true → layers ≤ 16) [
+      | true ↦ λ e. grind (arith, nat_tests, and_both)
+      | false ↦ λ e. grind (arith, nat_tests)
+    ] h
+
+-- the line that tells of an index
+pub told_line : (i : Contents) (kind : Kind) (layers edges : ℕ) → kind_at i.kind ≡ kind → layers ≡ length i.layers → edges ≡ edges_of i
+    → built_text (record { kind = kind; count = i.count; dim = i.dim; degree = i.degree; start = i.start; layers = layers; edges = edges }) ≡ line_of i
+told_line i kind layers edges k l e =
+    let same : record { kind = kind; count = i.count; dim = i.dim; degree = i.degree; start = i.start; layers = layers; edges = edges } ≡ told_of i =
+    λ j. record { kind = sym k j; count = i.count; dim = i.dim; degree = i.degree; start = i.start; layers = l j; edges = e j } in
+    ap built_text same ∙ line_is i
+
+-- the builder's index is the one that a build must give
+pub same_index : (X : List (List ℕ)) (s : VamanaSettings) (o : Settings) → s.order ≡ o.order → s.start ≡ o.start → s.seed ≡ o.seed → s.degree ≡ o.degree → s.beam ≡ o.beam
+    → s.alpha.num ≡ o.num → s.alpha.den ≡ o.den → s.cap ≡ o.cap → vamana_index X s ≡ index_of X o
+unfolding order_of index_of
+same_index X s o a b c d e f g h = λ i. index_of X (record o { order = a i; start = b i; seed = c i; degree = d i; beam = e i; num = f i; den = g i; cap = h i })
+
+-- the words of the rows against their limit
+pub words_over : (words : ℕ) → MAX_WORDS < words → words_refusal words ≡ Some (TooLarge Words words MAX_WORDS)
+words_over words over = elim (nat_lt MAX_WORDS words) as (λ b. nat_lt MAX_WORDS words ≡ b → words_refusal words ≡ Some (TooLarge Words words MAX_WORDS)) [
+  | true ↦ λ e. cc
+  | false ↦ λ e. absurd (omega (arith, over, ltb-false MAX_WORDS words e))
+] refl
+
+pub words_under : (words : ℕ) → words ≤ MAX_WORDS → words_refusal words ≡ None
+words_under words under = elim (nat_lt MAX_WORDS words) as (λ b. nat_lt MAX_WORDS words ≡ b → words_refusal words ≡ None) [
+  | true ↦ λ e. absurd (omega (arith, under, ltb-true MAX_WORDS words e))
+  | false ↦ λ e. cc
+] refl

@@ -1,0 +1,168 @@
+-- How storing and printing end.
+use Rattle.std.proofs.Common.{◌≡◌, ◌∙◌, ℕ, List, [], refl, ap, inl, inr, Option, Some, None, IfSome}
+use Rattle.std.specs.Prelude.{◌⊎◌}
+use Rattle.ann_shelf.specs.declared.slip.Slip.{Slip}
+use Rattle.ann_shelf.specs.declared.slip.Slip.TheVariants.{Failed, NoMemory as NoSlipMemory}
+use Rattle.ann_shelf.specs.Faults.{Rose}
+use Rattle.ann_shelf.specs.Files.{Files}
+use Rattle.annbuild_lines.specs.declared.fault.Fault.{Fault}
+use Rattle.annbuild_lines.specs.declared.fault.Fault.TheVariants.{Usage, Setting, Read, Malformed, Unfit, Write, NoMemory, TooLarge}
+use Rattle.annbuild_words.specs.declared.role.Role.{Role}
+use Rattle.annbuild_words.specs.declared.role.Role.TheVariants.{Base, Index, Queries, Output, Gone, Fresh, Labels}
+use Rattle.bin_files.proofs.Pieces.{told_then}
+use Rattle.ann_shelf.specs.Shown.{Shown}
+use Rattle.ann_shelf.specs.Written.{Got}
+use Rattle.command_shapes.specs.Doing.{Stored, files_with}
+use Rattle.command_shapes.specs.Clauses.{IsToldBy, HasCauseOf, LeavesOf, LeavesOutOf, IsBeforeWriting}
+use Rattle.command_shapes.specs.Faults.{write_fault_of}
+use Rattle.command_shapes.specs.Ends.{Ends}
+use Rattle.command_shapes.specs.Writing.{writing, stored_as, IsFile, IsOfPrinting, LeavesPieces, Printed}
+use Rattle.command_shapes.proofs.Told.{told_here}
+
+module _ (s : Option Stored) (pieces : List (List ℕ)) where
+  print_tells : (outs : Type 0) (files : Files) (fault : Fault) → IsOfPrinting outs fault → IsToldBy (writing s pieces) files fault
+  print_tells outs files Usage h = h
+  print_tells outs files (Setting n v l g) h = h
+  print_tells outs files (Read role) h = h
+  print_tells outs files (Malformed role place rule) h = absurd h
+  print_tells outs files (Unfit role what found wanted) h = absurd h
+  print_tells outs files (Write role) h = refl
+  print_tells outs files NoMemory h = tt
+  print_tells outs files (TooLarge n v l) h = absurd h
+
+  print_cause : (reads writes : List ℕ → Type 0) (outs : Type 0) (fault : Fault) → IsOfPrinting outs fault → HasCauseOf (writing s pieces) reads writes outs fault
+  print_cause reads writes outs Usage h = h
+  print_cause reads writes outs (Setting n v l g) h = h
+  print_cause reads writes outs (Read role) h = h
+  print_cause reads writes outs (Malformed role place rule) h = tt
+  print_cause reads writes outs (Unfit role what found wanted) h = tt
+  print_cause reads writes outs (Write Base) h = absurd h
+  print_cause reads writes outs (Write Index) h = absurd h
+  print_cause reads writes outs (Write Queries) h = absurd h
+  print_cause reads writes outs (Write Gone) h = absurd h
+  print_cause reads writes outs (Write Fresh) h = absurd h
+  print_cause reads writes outs (Write Labels) h = absurd h
+  print_cause reads writes outs (Write Output) h = inl (refl, h)
+  print_cause reads writes outs NoMemory h = tt
+  print_cause reads writes outs (TooLarge n v l) h = tt
+
+  print_leaves : (outs wants : Type 0) (files : Files) (fault : Fault) → IsOfPrinting outs fault → (fault ≡ NoMemory → (files_with s files ≡ files) ⊎ wants)
+      → LeavesOf (writing s pieces) wants files (files_with s files) fault
+  print_leaves outs wants files Usage h m = absurd h
+  print_leaves outs wants files (Setting n v l g) h m = absurd h
+  print_leaves outs wants files (Read role) h m = absurd h
+  print_leaves outs wants files (Malformed role place rule) h m = absurd h
+  print_leaves outs wants files (Unfit role what found wanted) h m = absurd h
+  print_leaves outs wants files (Write Base) h m = absurd h
+  print_leaves outs wants files (Write Index) h m = absurd h
+  print_leaves outs wants files (Write Queries) h m = absurd h
+  print_leaves outs wants files (Write Gone) h m = absurd h
+  print_leaves outs wants files (Write Fresh) h m = absurd h
+  print_leaves outs wants files (Write Labels) h m = absurd h
+  print_leaves outs wants files (Write Output) h m = refl
+  print_leaves outs wants files NoMemory h m = elim (m refl) as (λ _. LeavesOf (writing s pieces) wants files (files_with s files) NoMemory) [ inl e ↦ inl e | inr w ↦ inr (w, refl) ]
+  print_leaves outs wants files (TooLarge n v l) h m = absurd h
+
+  print_out : (wants : Type 0) (files : Files) (before after : List ℕ) (fault : Fault) → LeavesPieces wants before after pieces fault → LeavesOutOf (writing s pieces) wants files before after fault
+  print_out wants files before after Usage h = absurd h
+  print_out wants files before after (Setting n v l g) h = absurd h
+  print_out wants files before after (Read role) h = absurd h
+  print_out wants files before after (Malformed role place rule) h = absurd h
+  print_out wants files before after (Unfit role what found wanted) h = absurd h
+  print_out wants files before after (Write Base) h = absurd h
+  print_out wants files before after (Write Index) h = absurd h
+  print_out wants files before after (Write Queries) h = absurd h
+  print_out wants files before after (Write Gone) h = absurd h
+  print_out wants files before after (Write Fresh) h = absurd h
+  print_out wants files before after (Write Labels) h = absurd h
+  print_out wants files before after (Write Output) h = ([], refl, h)
+  print_out wants files before after NoMemory h = elim h as (λ _. LeavesOutOf (writing s pieces) wants files before after NoMemory) [ inl e ↦ inl e | inr got ↦ inr ([], refl, got) ]
+  print_out wants files before after (TooLarge n v l) h = absurd h
+
+  print_late : (outs : Type 0) (fault : Fault) → IsOfPrinting outs fault → IsBeforeWriting fault → ⊥
+  print_late outs Usage h b = h
+  print_late outs (Setting n v l g) h b = h
+  print_late outs (Read role) h b = h
+  print_late outs (Malformed role place rule) h b = h
+  print_late outs (Unfit role what found wanted) h b = h
+  print_late outs (Write role) h b = b
+  print_late outs NoMemory h b = b
+  print_late outs (TooLarge n v l) h b = h
+
+  -- printing, once the file that is stored is whole: where there is one, only the output itself wants memory
+  pub then_printed : (old new : Shown) (had got : Got) (fault : Option Fault) → IfSome old.held (λ files. new.held ≡ Some (files_with s files))
+      → ((files : Files) → fault ≡ Some NoMemory → (files_with s files ≡ files) ⊎ Rose had.wants got.wants) → Printed pieces had got fault → Ends (writing s pieces) old new had got fault
+  then_printed old new had got None whole memory printed = record {
+    done = told_then old.held whole (λ files is. record {
+      accepted = refl;
+      stored = (tt, is);
+      printed = told_then had.written printed.whole (λ text e. ([], refl, e));
+    });
+    failed = tt;
+    cause = tt;
+    as_found = tt;
+  }
+  then_printed old new had got (Some fault) whole memory printed = record {
+    done = tt;
+    failed = told_then old.held whole (λ files is. record {
+      tells = print_tells (Rose had.faults got.faults) files fault printed.cause;
+      leaves = (files_with s files, is, print_leaves (Rose had.faults got.faults) (Rose had.wants got.wants) files fault printed.cause (λ e. memory files (ap Some e)));
+      leaves_out = told_then had.written printed.leaves (λ text o. (o.0, o.1, print_out (Rose had.wants got.wants) files text o.0 fault o.2));
+      in_order = inr is;
+      only_accepted = inl refl;
+    });
+    cause = print_cause (λ name. Rose (old.read_faults name) (new.read_faults name)) (λ name. Rose (old.write_faults name) (new.write_faults name)) (Rose had.faults got.faults) fault printed.cause;
+    as_found = λ b. absurd (print_late (Rose had.faults got.faults) fault printed.cause b);
+  }
+
+module _ (role : Role) (name text : List ℕ) (pieces : List (List ℕ)) (file : IsFile role) where
+  store_tells : (files : Files) (slip : Slip) → IsToldBy (writing (Some (stored_as role name text)) pieces) files (write_fault_of role slip)
+  store_tells files Failed = refl
+  store_tells files NoSlipMemory = tt
+
+  store_cause : (reads writes : List ℕ → Type 0) (outs : Type 0) (slip : Slip) → (slip ≡ Failed → writes name) → HasCauseOf (writing (Some (stored_as role name text)) pieces) reads writes outs (write_fault_of role slip)
+  store_cause reads writes outs Failed m = inr (refl, m refl)
+  store_cause reads writes outs NoSlipMemory m = tt
+
+  store_late : (slip : Slip) → IsBeforeWriting (write_fault_of role slip) → ⊥
+  store_late Failed b = b
+  store_late NoSlipMemory b = b
+
+store_leaves : (role : Role) (name text : List ℕ) (pieces : List (List ℕ)) → IsFile role → (wants : Type 0) (files : Files) (slip : Slip)
+    → LeavesOf (writing (Some (stored_as role name text)) pieces) wants files files (write_fault_of role slip)
+store_leaves Base name text pieces file wants files Failed = refl
+store_leaves Index name text pieces file wants files Failed = refl
+store_leaves Queries name text pieces file wants files Failed = refl
+store_leaves Gone name text pieces file wants files Failed = refl
+store_leaves Fresh name text pieces file wants files Failed = refl
+store_leaves Labels name text pieces file wants files Failed = refl
+store_leaves Output name text pieces file wants files Failed = absurd file
+store_leaves role name text pieces file wants files NoSlipMemory = inl refl
+
+store_out : (role : Role) (name text : List ℕ) (pieces : List (List ℕ)) → IsFile role → (wants : Type 0) (files : Files) (before : List ℕ) (slip : Slip)
+    → LeavesOutOf (writing (Some (stored_as role name text)) pieces) wants files before before (write_fault_of role slip)
+store_out Base name text pieces file wants files before Failed = refl
+store_out Index name text pieces file wants files before Failed = refl
+store_out Queries name text pieces file wants files before Failed = refl
+store_out Gone name text pieces file wants files before Failed = refl
+store_out Fresh name text pieces file wants files before Failed = refl
+store_out Labels name text pieces file wants files before Failed = refl
+store_out Output name text pieces file wants files before Failed = absurd file
+store_out role name text pieces file wants files before NoSlipMemory = inl refl
+
+-- a file that couldn't be stored
+pub store_failed : (role : Role) (name text : List ℕ) (pieces : List (List ℕ)) → IsFile role → (old new : Shown) (had : Got) (slip : Slip)
+    → new.held ≡ old.held → (slip ≡ Failed → Rose (old.write_faults name) (new.write_faults name))
+    → Ends (writing (Some (stored_as role name text)) pieces) old new had had (Some (write_fault_of role slip))
+store_failed role name text pieces file old new had slip same rose = record {
+  done = tt;
+  failed = told_here old.held (λ files is. record {
+    tells = store_tells role name text pieces file files slip;
+    leaves = (files, same ∙ is, store_leaves role name text pieces file (Rose had.wants had.wants) files slip);
+    leaves_out = told_here had.written (λ before e. (before, e, store_out role name text pieces file (Rose had.wants had.wants) files before slip));
+    in_order = inl refl;
+    only_accepted = inl refl;
+  });
+  cause = store_cause role name text pieces file (λ n. Rose (old.read_faults n) (new.read_faults n)) (λ n. Rose (old.write_faults n) (new.write_faults n)) (Rose had.faults had.faults) slip rose;
+  as_found = λ b. absurd (store_late role name text pieces file slip b);
+}

@@ -1,0 +1,119 @@
+//! Answering queries in rounds, and printing a line for each.
+ghost use Rattle.std.specs.Prelude.{◌≡◌, ◌+◌, ◌*◌, ◌<◌, ◌≤◌, length, vec_capacity, IfOk};
+ghost use Rattle.steal_pool.specs.Work.{AllServe};
+ghost use Rattle.batch_search.specs.Answers.{round_of, round_size};
+ghost use Rattle.command_shapes.specs.Ends.{fault_in};
+ghost use Rattle.command_shapes.specs.Writing.{Printed};
+ghost use Rattle.command_shapes.specs.AnswerLines.{lines_from};
+
+use crate::lines::print_answers;
+use ann_defs::Near;
+use ann_shelf::{Gate, NoMemory, Out};
+use annbuild_lines::{Fault, query_line_bytes};
+use batch_search::{Answering, MAX_TASKS, answer_round};
+use std::alloc::Global;
+use std::thread::Threads;
+use steal_pool::{Post, Rounds};
+
+/// Answers one round of queries and prints their lines. The answer is the number of the next query.
+fn print_next<R: Threads + Sync, P: Rounds, A: Answering, O: Out, G: Gate + Sync>(
+    rt: &R,
+    alloc: Global,
+    batch: &A,
+    from: u32,
+    pool: &mut P,
+    posts: &mut [Post<A::Scratch>],
+    nears: &mut [Near],
+    line: &mut Vec<u8>,
+    out: &mut O,
+    gate: &G,
+) -> Result<u32, Fault>
+    requires from { from < length (A.answers batch.now) }
+    requires posts { length posts.old ≡ P.count pool.old }
+    requires serve { AllServe (A.serves batch.now) posts.old }
+    requires nears { length nears.old ≡ A.longest batch.now }
+    requires line { 22 * length nears.old + 11 ≤ vec_capacity line.old }
+    ensures next { IfOk result (λ next. next ≡ from + round_size (length (A.answers batch.now)) from) }
+    ensures printed { Printed (lines_from from (round_of (A.answers batch.now) from)) (O.got out.old) (O.got out.new) (fault_in result) }
+    ensures serve { AllServe (A.serves batch.now) posts.new }
+    ensures workers { P.count pool.new ≡ P.count pool.old }
+    ensures capacity { vec_capacity line.new ≡ vec_capacity line.old }
+{
+    let left = batch.count() - from;
+    let answers = match answer_round(rt, alloc, pool, batch, from, posts, gate) {
+        Ok(answers) => answers,
+        Err(NoMemory) => return Err(Fault::NoMemory),
+    };
+    print_answers(&answers, from, nears, line, out)?;
+    Ok(from + MAX_TASKS.min(left))
+}
+
+/// Answers all queries, round after round, and prints a line for each. It takes memory for the rounds alone.
+fn print_rounds<R: Threads + Sync, P: Rounds, A: Answering, O: Out, G: Gate + Sync>(
+    rt: &R,
+    alloc: Global,
+    batch: &A,
+    pool: &mut P,
+    posts: &mut [Post<A::Scratch>],
+    nears: &mut [Near],
+    line: &mut Vec<u8>,
+    out: &mut O,
+    gate: &G,
+) -> Result<(), Fault>
+    requires posts { length posts.old ≡ P.count pool.old }
+    requires serve { AllServe (A.serves batch.now) posts.old }
+    requires nears { length nears.old ≡ A.longest batch.now }
+    requires line { 22 * length nears.old + 11 ≤ vec_capacity line.old }
+    ensures { Printed (lines_from 0 (A.answers batch.now)) (O.got out.old) (O.got out.new) (fault_in result) }
+{
+    let count = batch.count();
+    let mut from = 0;
+    while from < count {
+        from = print_next(rt, alloc, batch, from, pool, posts, nears, line, out, gate)?;
+    }
+    Ok(())
+}
+
+/// Room for one answer, and for its line.
+fn rooms_for<A: Answering>(alloc: Global, batch: &A) -> Result<(Vec<Near>, Vec<u8>), NoMemory>
+    ensures nears { IfOk result (λ r. length r.0.items ≡ A.longest batch.now) }
+    ensures line { IfOk result (λ r. 22 * A.longest batch.now + 11 ≤ vec_capacity r.1) }
+{
+    let longest = batch.longest() as usize;
+    let nears = vec![in alloc; Near { dist: 0, id: 0 }; longest]?;
+    let line = Vec::with_capacity(alloc, query_line_bytes(longest))?;
+    Ok((nears, line))
+}
+
+/// Answers all queries on a pool, in rounds of at most 4,096, and prints a line for each as its round ends.
+///
+/// Besides what `answer_round` takes, it takes memory for one answer and its line.
+pub fn answer_and_print<R: Threads + Sync, P: Rounds, A: Answering, O: Out, G: Gate + Sync>(
+    rt: &R,
+    alloc: Global,
+    batch: &A,
+    pool: &mut P,
+    posts: &mut [Post<A::Scratch>],
+    out: &mut O,
+    gate: &G,
+) -> Result<(), Fault>
+    requires posts { length posts.old ≡ P.count pool.old }
+    requires serve { AllServe (A.serves batch.now) posts.old }
+    ensures { Printed (lines_from 0 (A.answers batch.now)) (O.got out.old) (O.got out.new) (fault_in result) }
+{
+    let (mut nears, mut line) = match rooms_for(alloc, batch) {
+        Ok(rooms) => rooms,
+        Err(NoMemory) => return Err(Fault::NoMemory),
+    };
+    print_rounds(
+        rt,
+        alloc,
+        batch,
+        pool,
+        posts,
+        nears.as_mut_slice(),
+        &mut line,
+        out,
+        gate,
+    )
+}
