@@ -15,6 +15,8 @@ mod files;
 #[cfg(test)]
 mod gates;
 #[cfg(test)]
+mod large;
+#[cfg(test)]
 mod memory;
 #[cfg(test)]
 mod query;

@@ -1,0 +1,61 @@
+//! The lanes beside the plain loop, and values from elsewhere.
+ghost use Rattle.std.specs.Prelude.{◌≡◌, ◌≤◌, length};
+ghost use Rattle.ann_defs.specs.Distance.{dist_of};
+
+use ann_defs::MAX_DIM;
+use lane_distance::dist;
+
+// The same, byte by byte from the first to the last.
+fn plain(a: &[u8], b: &[u8]) -> u32
+    requires alike { length a.now ≡ length b.now }
+    requires short { length a.now ≤ MAX_DIM }
+    ensures { result ≡ dist_of a.now b.now }
+{
+    let mut total: u32 = 0;
+    for (i, x) in a.iter().enumerate() {
+        let gap = x.abs_diff(b[i]) as u32;
+        total += gap * gap;
+    }
+    total
+}
+
+// Whether both give the same for the first `n` bytes of two points of 100 bytes.
+fn alike(n: usize) -> bool {
+    let mut a = [0u8; 100];
+    let mut b = [0u8; 100];
+    for i in 0..100usize {
+        a[i] = (i * 37 % 256) as u8;
+        b[i] = (i * i * 11 % 256) as u8;
+    }
+    n > 100 || dist(&a[..n], &b[..n]) == plain(&a[..n], &b[..n])
+}
+
+#[test]
+fn lanes_agree_with_the_plain_loop_at_each_length(rt: HostRuntime) {
+    for n in 0..101usize {
+        assert!(rt; alike(n));
+    }
+}
+
+#[test]
+fn the_greatest_distance_is_of_2048_bytes(rt: HostRuntime) {
+    assert_eq!(rt; dist(&[0; 2048], &[255; 2048]), 133171200);
+    assert_eq!(rt; dist(&[255; 2048], &[0; 2048]), 133171200);
+}
+
+#[test]
+fn each_byte_counts_once(rt: HostRuntime) {
+    assert_eq!(rt; dist(&[], &[]), 0);
+    assert_eq!(rt; dist(&[0; 1], &[1; 1]), 1);
+    assert_eq!(rt; dist(&[0; 15], &[1; 15]), 15);
+    assert_eq!(rt; dist(&[0; 16], &[1; 16]), 16);
+    assert_eq!(rt; dist(&[0; 17], &[1; 17]), 17);
+    assert_eq!(rt; dist(&[0; 100], &[1; 100]), 100);
+}
+
+#[test]
+fn differences_are_squared_in_both_directions(rt: HostRuntime) {
+    assert_eq!(rt; dist(&[0, 10], &[255, 7]), 65034);
+    assert_eq!(rt; dist(&[255, 7], &[0, 10]), 65034);
+    assert_eq!(rt; dist(&[3, 200, 255], &[3, 200, 255]), 0);
+}
