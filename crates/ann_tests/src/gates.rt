@@ -1,8 +1,11 @@
 //! What a gate sees: batches and tasks.
-use crate::calls::{NONE, call_at};
+use crate::calls::{NONE, Outcome, call_at};
 use crate::files::{FOUR, FOUR_BY_FOUR};
-use ann_shelf::Gate;
+use ann_shelf::{FreeGate, Gate, NoMemory};
+use std::alloc::Global;
+use std::sync::Wait;
 use std::sync::atomic::{AtomicU64, Ordering};
+use std::thread::Threads;
 
 /// A gate that counts. The numbers of the batches stand behind one another, a decimal digit each.
 #[derive(Drop)]
@@ -76,10 +79,65 @@ fn comes(number: &AtomicU64) -> bool {
     false
 }
 
-/// A gate at which the first task after batch 3 has begun waits until a task of another worker has begun.
+/// The first batch whose round both workers take part in: in batches of at most 64, of 128 points the last one has 64.
+const LAST: u32 = 8;
+
+/// A file of so many points on a line.
+fn line_of(alloc: Global, count: u8) -> Result<Vec<u8>, NoMemory> {
+    let mut file = Vec::new(alloc);
+    file.extend_from_slice(&u32::from(count).to_le_bytes())?;
+    file.extend_from_slice(&1u32.to_le_bytes())?;
+    for place in 0..count {
+        file.push(place)?;
+    }
+    Ok(file)
+}
+
+/// A build of the points on a line by two workers of this pool.
+fn built<R: Threads + Wait + Sync, G: Gate + Sync>(
+    rt: &R,
+    alloc: Global,
+    pool: &str,
+    gate: &G,
+) -> Result<Outcome, NoMemory> {
+    let points = line_of(alloc, 128)?;
+    let words = format!(in alloc;
+        "build pts ann --order file --start first --degree 2 --beam 4 --alpha 1/1 --cap 64 --workers 2 --pool {pool}"
+    )?;
+    call_at(
+        rt,
+        alloc,
+        words.as_str(),
+        &[("pts", points.as_slice())],
+        NONE,
+        gate,
+    )
+}
+
+/// Queries of the points on a line, by two workers of this pool.
+fn answered<R: Threads + Wait + Sync, G: Gate + Sync>(
+    rt: &R,
+    alloc: Global,
+    pool: &str,
+    gate: &G,
+) -> Result<Outcome, NoMemory> {
+    let points = line_of(alloc, 128)?;
+    let asked = line_of(alloc, 64)?;
+    let build = built(rt, alloc, "serial", &FreeGate)?;
+    let index = build.shelf.bytes("ann").unwrap_or(&[]);
+    let words = format!(in alloc; "query pts ann ask --workers 2 --pool {pool}")?;
+    let files = [
+        ("pts", points.as_slice()),
+        ("ann", index),
+        ("ask", asked.as_slice()),
+    ];
+    call_at(rt, alloc, words.as_str(), &files, NONE, gate)
+}
+
+/// A gate at which the first task after the last batch has begun waits until a task of another worker has begun.
 #[derive(Drop)]
 struct Meeting {
-    /// 1 from batch 3 on.
+    /// 1 from the last batch on.
     state: AtomicU64,
     /// One more than the worker of the waiting task, and of the task that it met.
     first: AtomicU64,
@@ -123,7 +181,7 @@ impl Gate for Meeting {
     }
 
     fn batch(&self, v: u32) {
-        if v == 3 {
+        if v == LAST {
             self.state.store(1, Ordering::SeqCst);
         }
     }
@@ -133,21 +191,15 @@ impl Gate for Meeting {
 
 #[test]
 fn tasks_of_both_workers_meet_in_a_build(rt: HostRuntime) {
+    let serial = built(&rt, rt.alloc(), "serial", &FreeGate).expect(&rt, "memory");
+    assert_eq!(rt; serial.status.code, 0);
     for pool in ["steal", "rayon"] {
         let gate = Meeting::new();
-        let words = format!(in rt.alloc();
-            "build pts ann --order file --start first --degree 2 --beam 4 --alpha 1/1 --cap 4 --workers 2 --pool {pool}"
-        ).expect(&rt, "memory");
-        let ended = call_at(
-            &rt,
-            rt.alloc(),
-            words.as_str(),
-            &[("pts", FOUR)],
-            NONE,
-            &gate,
-        )
-        .expect(&rt, "memory");
-        assert!(rt; ended.shelf.bytes("ann") == Some(FOUR_BY_FOUR), "{pool}");
+        let ended = built(&rt, rt.alloc(), pool, &gate).expect(&rt, "memory");
+        assert!(rt;
+            ended.shelf.bytes("ann") == serial.shelf.bytes("ann"),
+            "{pool}"
+        );
         assert_eq!(rt; gate.vain.load(Ordering::SeqCst), 0, "{pool}");
         let first = gate.first.load(Ordering::SeqCst);
         let other = gate.other.load(Ordering::SeqCst);
@@ -158,8 +210,56 @@ fn tasks_of_both_workers_meet_in_a_build(rt: HostRuntime) {
     }
 }
 
-/// A gate that notes which worker runs each of the first four tasks from a batch on, or from the call on where the batch is 0.
-/// Where it holds tasks back, task 0 waits until task 1 has begun, and task 2 until task 0 has.
+/// A gate that counts the tasks of other workers than the first.
+#[derive(Drop)]
+struct Others(AtomicU64);
+
+impl Gate for Others {
+    fn task(&self, worker: u32, _task: u32) {
+        if worker != 0 {
+            self.0.fetch_add(1, Ordering::SeqCst);
+        }
+    }
+
+    fn batch(&self, _v: u32) {}
+
+    fn answer(&self, _query: u32) {}
+}
+
+#[test]
+fn rounds_of_few_tasks_run_in_one_thread(rt: HostRuntime) {
+    // Each of the 128 batches is one point, and few rows are merged after it.
+    for pool in ["steal", "rayon"] {
+        let gate = Others(AtomicU64::new(0));
+        let points = line_of(rt.alloc(), 128).expect(&rt, "memory");
+        let words = format!(in rt.alloc();
+            "build pts ann --cap 1 --degree 2 --workers 2 --pool {pool}"
+        ).expect(&rt, "memory");
+        let files = [("pts", points.as_slice())];
+        let ended = call_at(&rt, rt.alloc(), words.as_str(), &files, NONE, &gate).expect(
+            &rt, "memory",
+        );
+        assert_eq!(rt; ended.status.code, 0, "{pool}");
+        assert_eq!(rt; gate.0.load(Ordering::SeqCst), 0, "{pool}");
+    }
+}
+
+/// Of a round of 64 tasks the first and the last of each half.
+const WATCHED: [u32; 4] = [0, 31, 32, 63];
+
+/// Which of these tasks a task is.
+fn watched(task: u32) -> Option<usize> {
+    for (i, number) in WATCHED.iter().enumerate() {
+        if *number == task {
+            return Some(i);
+        }
+    }
+    None
+}
+
+/// A gate that notes which worker runs each of four tasks of the first round from a batch on, or of the call where the
+/// batch is 0. Where it holds tasks back, the first one waits until the last of its half has begun, and the first of
+/// the other half until it has itself.
 #[derive(Drop)]
 struct Noting {
     from: u32,
@@ -188,32 +288,39 @@ impl Noting {
         }
     }
 
-    fn worker_of(&self, task: usize) -> u64 {
-        if task < 4 {
-            self.workers[task].load(Ordering::SeqCst)
+    fn worker_of(&self, which: usize) -> u64 {
+        if which < 4 {
+            self.workers[which].load(Ordering::SeqCst)
         } else {
             0
         }
     }
-}
 
-impl Gate for Noting {
-    fn task(&self, worker: u32, task: u32) {
-        if self.state.load(Ordering::SeqCst) == 0
-            || task >= 4
-            || self.seen.fetch_add(1, Ordering::SeqCst) >= 4
-        {
+    // Notes the worker of one of the four tasks, and holds it back.
+    fn note(&self, worker: u32, which: usize) {
+        if which >= 4 || self.seen.fetch_add(1, Ordering::SeqCst) >= 4 {
             return;
         }
-        self.workers[task as usize].store(u64::from(worker) + 1, Ordering::SeqCst);
+        self.workers[which].store(u64::from(worker) + 1, Ordering::SeqCst);
         let held = self.holds
-            && match task {
+            && match which {
                 0 => !comes(&self.workers[1]),
                 2 => !comes(&self.workers[0]),
                 _ => false,
             };
         if held {
             self.vain.store(1, Ordering::SeqCst);
+        }
+    }
+}
+
+impl Gate for Noting {
+    fn task(&self, worker: u32, task: u32) {
+        if self.state.load(Ordering::SeqCst) == 0 {
+            return;
+        }
+        if let Some(which) = watched(task) {
+            self.note(worker, which);
         }
     }
 
@@ -226,44 +333,22 @@ impl Gate for Noting {
     fn answer(&self, _query: u32) {}
 }
 
-/// Eight points on a line. In batches of at most 4 the last one has four points.
-const EIGHT: &[u8] = b"\x08\0\0\0\x01\0\0\0\x00\x0a\x14\x1e\x28\x32\x3c\x46";
-
-const BUILD_EIGHT: &str =
-    "build pts ann --order file --start first --degree 2 --beam 4 --alpha 1/1 --cap 4 --workers 2";
+/// One loop: each task is the one worker's. Fixed shares: each worker has its half.
+const FIXED: [(&str, [u64; 4]); 2] = [("serial", [1, 1, 1, 1]), ("rayon", [1, 1, 2, 2])];
 
 #[test]
 fn the_pool_asked_for_is_the_pool_that_builds(rt: HostRuntime) {
-    // One loop: each task is the one worker's. Fixed shares: each worker has its half.
-    for (pool, workers) in [("serial", [1, 1, 1, 1]), ("rayon", [1, 1, 2, 2])] {
-        let gate = Noting::new(4, false);
-        let words = format!(in rt.alloc(); "{BUILD_EIGHT} --pool {pool}").expect(&rt, "memory");
-        let ended = call_at(
-            &rt,
-            rt.alloc(),
-            words.as_str(),
-            &[("pts", EIGHT)],
-            NONE,
-            &gate,
-        )
-        .expect(&rt, "memory");
+    for (pool, workers) in FIXED {
+        let gate = Noting::new(LAST, false);
+        let ended = built(&rt, rt.alloc(), pool, &gate).expect(&rt, "memory");
         assert_eq!(rt; ended.status.code, 0, "{pool}");
-        for task in 0..4usize {
-            assert_eq!(rt; gate.worker_of(task), workers[task], "{pool}");
+        for which in 0..4usize {
+            assert_eq!(rt; gate.worker_of(which), workers[which], "{pool}");
         }
     }
-    // Stolen tasks: task 1 stands in the first worker's share, which waits in task 0 until the other one has begun it.
-    let gate = Noting::new(4, true);
-    let words = format!(in rt.alloc(); "{BUILD_EIGHT} --pool steal").expect(&rt, "memory");
-    let ended = call_at(
-        &rt,
-        rt.alloc(),
-        words.as_str(),
-        &[("pts", EIGHT)],
-        NONE,
-        &gate,
-    )
-    .expect(&rt, "memory");
+    // Stolen tasks: the first worker waits in its first task until the other one has begun the last of its half.
+    let gate = Noting::new(LAST, true);
+    let ended = built(&rt, rt.alloc(), "steal", &gate).expect(&rt, "memory");
     assert_eq!(rt; ended.status.code, 0);
     assert_eq!(rt; gate.vain.load(Ordering::SeqCst), 0);
     assert_eq!(rt; gate.worker_of(0), 1);
@@ -272,23 +357,16 @@ fn the_pool_asked_for_is_the_pool_that_builds(rt: HostRuntime) {
 
 #[test]
 fn the_pool_asked_for_is_the_pool_that_answers(rt: HostRuntime) {
-    let files = [("pts", FOUR), ("ann", FOUR_BY_FOUR), ("ask", FOUR)];
-    for (pool, workers) in [("serial", [1, 1, 1, 1]), ("rayon", [1, 1, 2, 2])] {
+    for (pool, workers) in FIXED {
         let gate = Noting::new(0, false);
-        let words = format!(in rt.alloc(); "query pts ann ask --workers 2 --pool {pool}").expect(
-            &rt, "memory",
-        );
-        let ended = call_at(&rt, rt.alloc(), words.as_str(), &files, NONE, &gate).expect(
-            &rt, "memory",
-        );
+        let ended = answered(&rt, rt.alloc(), pool, &gate).expect(&rt, "memory");
         assert_eq!(rt; ended.status.code, 0, "{pool}");
-        for task in 0..4usize {
-            assert_eq!(rt; gate.worker_of(task), workers[task], "{pool}");
+        for which in 0..4usize {
+            assert_eq!(rt; gate.worker_of(which), workers[which], "{pool}");
         }
     }
     let gate = Noting::new(0, true);
-    let words = "query pts ann ask --workers 2 --pool steal";
-    let ended = call_at(&rt, rt.alloc(), words, &files, NONE, &gate).expect(&rt, "memory");
+    let ended = answered(&rt, rt.alloc(), "steal", &gate).expect(&rt, "memory");
     assert_eq!(rt; ended.status.code, 0);
     assert_eq!(rt; gate.vain.load(Ordering::SeqCst), 0);
     assert_eq!(rt; gate.worker_of(0), 1);

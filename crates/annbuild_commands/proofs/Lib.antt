@@ -4,4 +4,3 @@ pub mod BuildFacts
 pub mod QueryFacts
 pub mod Tells
 pub mod TopClauses
-pub mod PoolFacts

@@ -1,13 +1,15 @@
 -- What the words mean, as a condition of what is said of a call, and the line of a fault.
 use Rattle.std.specs.Prelude.{◌≡◌, ◌⊎◌, ℕ, ◌<◌, List, ◌++◌, length, take}
-use Rattle.annbuild_words.specs.Asked.{Command, Meaning}
+use Rattle.annbuild_words.specs.Asked.{Meaning}
 use Rattle.annbuild_words.specs.Asked.Meaning.{Means}
 use Rattle.annbuild_lines.specs.Lines.{fault_text}
 use Rattle.annbuild_lines.specs.declared.fault.Fault.{Fault}
+use Rattle.command_shapes.specs.Doing.{Doing}
+use Rattle.annbuild_commands.specs.Commands.{doing_of}
 
--- P of the command that the words mean, if they mean one
-abbrev pub OnCommand : Meaning → (Command → Type 0) → Type 0
-OnCommand (Means command) P = P command
+-- P of the command that the words mean, as data, if they mean one
+abbrev pub OnCommand : Meaning → (Doing → Type 0) → Type 0
+OnCommand (Means command) P = P (doing_of command)
 OnCommand meaning P = Unit {0}
 
 -- the words mean no request, or one with a setting out of its range

@@ -3,3 +3,4 @@ pub mod Building
 pub mod Querying
 pub mod Commands
 pub mod Ending
+pub mod Promises

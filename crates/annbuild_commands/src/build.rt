@@ -13,6 +13,7 @@ ghost use Rattle.command_shapes.specs.Reading.{points_read};
 ghost use Rattle.annbuild_commands.specs.IndexOf.{index_of, line_of, words_of};
 ghost use Rattle.annbuild_commands.specs.Building.{building, IsIndexOf};
 
+use crate::pooling::pool_for;
 use ann_defs::{Alpha, MAX_WORDS};
 use ann_shelf::{Gate, NoMemory, Out, Quantity, Shelf};
 use annbuild_lines::{BuiltLine, Fault, Line, built_line};
@@ -22,7 +23,7 @@ use command_shapes::{read_points_of, store_and_print};
 use graph_rows::Index;
 use std::alloc::Global;
 use std::thread::Threads;
-use steal_pool::{Pool, Rounds};
+use steal_pool::Rounds;
 use vamana_build::{Plan, Vamana, VamanaSettings};
 
 /// The settings of the builder.
@@ -130,7 +131,8 @@ fn prepared<R: Threads + Sync, F: Shelf, G: Gate + Sync>(
             limit: MAX_WORDS,
         });
     }
-    let mut pool = Pool::new(request.settings.pool, request.settings.workers);
+    // A round has a task for each of some of the points.
+    let mut pool = pool_for(&request.settings, points.count());
     match index_on(rt, alloc, &points, &request.settings, &mut pool, gate) {
         Ok(index) => Ok(index),
         Err(NoMemory) => Err(Fault::NoMemory),

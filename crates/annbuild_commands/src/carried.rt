@@ -5,9 +5,7 @@ ghost use Rattle.annbuild_words.specs.Asked.{request_of};
 ghost use Rattle.annbuild_words.specs.Asked.Meaning.{Nothing', Outside'};
 ghost use Rattle.annbuild_lines.specs.Codes.{code_of};
 ghost use Rattle.annbuild_words.specs.declared.role.SettingName.{SettingName};
-ghost use Rattle.command_shapes.specs.Clauses.{IsBeforeWriting};
 ghost use Rattle.command_shapes.specs.Ends.{Ends};
-ghost use Rattle.annbuild_commands.specs.Commands.{doing_of};
 ghost use Rattle.annbuild_commands.specs.Ending.{OnCommand, IsNoCommand, TellsOf};
 
 use crate::request::answer;
@@ -32,8 +30,7 @@ pub(crate) fn carry_out<R: Threads + Sync, F: Shelf, O: Out, G: Gate + Sync>(
     ensures usage { (result.fault ≡ Some Fault.Usage) ↔ (request_of (map (λ w. string_bytes w) words.now) ≡ Nothing') }
     ensures setting { (name : SettingName) (value least greatest : ℕ) → (result.fault ≡ Some (Fault.Setting name value least greatest)) ↔ (request_of (map (λ w. string_bytes w) words.now) ≡ Outside' name value least greatest) }
     ensures untouched { IsNoCommand (request_of (map (λ w. string_bytes w) words.now)) → (shelf.new ≡ shelf.old) × (out.new ≡ out.old) }
-    ensures ends { OnCommand (request_of (map (λ w. string_bytes w) words.now)) (λ command. Ends (doing_of command) (F.shown shelf.old) (F.shown shelf.new) (O.got out.old) (O.got out.new) result.fault) }
-    ensures as_found { IfSome result.fault (λ fault. IsBeforeWriting fault → ((F.shown shelf.new).held ≡ (F.shown shelf.old).held) × ((O.got out.new).written ≡ (O.got out.old).written)) }
+    ensures ends { OnCommand (request_of (map (λ w. string_bytes w) words.now)) (λ d. Ends d (F.shown shelf.old) (F.shown shelf.new) (O.got out.old) (O.got out.new) result.fault) }
     ensures silent { IfNone result.fault ((O.got err.new).written ≡ (O.got err.old).written) }
     ensures told { IfSome result.fault (λ fault. IfSome (O.got err.old).written (λ before. (after : List ℕ) × ((O.got err.new).written ≡ Some after)
         × TellsOf (Rose (O.got err.old).faults (O.got err.new).faults ⊎ Rose (O.got err.old).wants (O.got err.new).wants) before after fault)) }

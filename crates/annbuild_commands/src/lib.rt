@@ -2,7 +2,7 @@
 //!
 //! `annbuild` reads the words and hands the request to its command. Each command reads its files first, computes
 //! everything that it writes to a file, and writes last; `query` prints its lines as they are computed. Every command
-//! has the same clauses, by `specs/Commands`, and the contract of the top call, over any shelf, outputs and gate, is the
+//! keeps the same promises, by `specs/Promises`, and the contract of the top call, over any shelf, outputs and gate, is the
 //! contract of the program.
 #![tactic(auto)]
 
@@ -10,6 +10,7 @@ mod build;
 mod carried;
 mod inputs;
 mod plain;
+mod pooling;
 mod query;
 mod request;
 mod told;

@@ -11,6 +11,7 @@ ghost use Rattle.command_shapes.specs.AnswerLines.{lines_from};
 ghost use Rattle.annbuild_commands.specs.Querying.{querying, unfit_in, all_answers};
 
 use crate::inputs::{Inputs, read_inputs};
+use crate::pooling::pool_for;
 use ann_shelf::{Gate, NoMemory, Out, Shelf};
 use annbuild_lines::Fault;
 use annbuild_words::{Request, Settings};
@@ -18,7 +19,7 @@ use batch_search::{QueryBatch, posts_for};
 use command_shapes::answer_and_print;
 use std::alloc::Global;
 use std::thread::Threads;
-use steal_pool::{Pool, Rounds};
+use steal_pool::Rounds;
 
 /// Makes what the workers of a pool need, and answers all queries on it.
 fn answer_on<R: Threads + Sync, P: Rounds, O: Out, G: Gate + Sync>(
@@ -59,7 +60,7 @@ fn answered<R: Threads + Sync, O: Out, G: Gate + Sync>(
         options.search,
         options.k,
     );
-    let mut pool = Pool::new(options.pool, options.workers);
+    let mut pool = pool_for(options, inputs.queries.count());
     answer_on(rt, alloc, &batch, &mut pool, out, gate)
 }
 

@@ -1,4 +1,4 @@
-use Rattle.std.proofs.Common.{rules, ◌≡◌, ◌∙◌, ◌+◌, ◌*◌, [], refl, ap, sym, arith, length, List, ℕ, Some}
+use Rattle.std.proofs.Common.{◌≡◌, ◌∙◌, ◌+◌, ◌*◌, [], refl, ap, sym, arith, length, List, ℕ, Some}
 use Rattle.ann_shelf.specs.Files.{bytes_of}
 use Rattle.bin_files.proofs.Pieces.{told_then}
 use Rattle.ann_defs.specs.Distance.{PointSet}
@@ -12,7 +12,6 @@ use Rattle.command_shapes.proofs.Ending.{fails_at, fails_rest, fails_memory}
 use Rattle.annbuild_commands.specs.Building.{building, words_refusal}
 use Rattle.annbuild_commands.proofs.IndexFacts.{words_over, words_under}
 use Rattle.annbuild_commands.specs.IndexOf.{index_of}
-use Rattle.annbuild_commands.proofs.PoolFacts.{pool_fits}
 use Rattle.annbuild_commands.proofs.QueryFacts.{points_text}
 use Rattle.annbuild_commands.proofs.build.prepared.Goals as goal
 
@@ -43,6 +42,3 @@ returns-in-Ok-clause-index g c =
       meant = points_text Base (bytes_of files c.args.request.now.names.first.now) points of;
       index_is = c.in-Ok.ensures.index ∙ ap (λ (X : PointSet). index_of X.vectors c.args.request.now.settings) of.points_are;
     })
-
-pub index_on-requires-clause-workers : goal.index_on-requires-clause-workers
-index_on-requires-clause-workers g c = let h = pool_fits _ c.args.request.now.settings.workers c.args.request.now.settings.pool c.new-pool.ensures c.requires.some_worker c.requires.workers in search rules
