@@ -131,7 +131,7 @@ fn prepared<R: Threads + Sync, F: Shelf, G: Gate + Sync>(
             limit: MAX_WORDS,
         });
     }
-    // A round has a task for each of some of the points.
+    // A round searches for some of the points.
     let mut pool = pool_for(&request.settings, points.count());
     match index_on(rt, alloc, &points, &request.settings, &mut pool, gate) {
         Ok(index) => Ok(index),

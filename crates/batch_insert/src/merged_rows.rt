@@ -11,6 +11,9 @@ use crate::proposals::Proposals;
 use graph_rows::Rows;
 use steal_pool::Work;
 
+/// How many merges make up for starting a thread: most of them add an id to a row that has room.
+const LEAST_MERGES: u32 = 128;
+
 /// A task for each target of the proposals: its row with its sources.
 #[derive(Drop)]
 pub(crate) struct MergedRows<'a, V: Rows + Sync, M: Merging> {
@@ -37,6 +40,10 @@ impl<'a, V: Rows + Sync, M: Merging> Work for MergedRows<'a, V, M> {
 
     fn width(&self) -> u32 {
         self.merging.degree() + 1
+    }
+
+    fn least(&self) -> u32 {
+        LEAST_MERGES
     }
 
     fn run(&self, scratch: &mut M::Scratch, task: u32, out: &mut [u32]) {

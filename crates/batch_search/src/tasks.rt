@@ -6,7 +6,7 @@ ghost use Rattle.batch_search.specs.Answers.{round_of, round_size};
 ghost use Rattle.batch_search.specs.Blocks.{block_of};
 
 use crate::answering::Answering;
-use steal_pool::Work;
+use steal_pool::{LEAST_SEARCHES, Work};
 
 /// The greatest number of queries in a round.
 pub const MAX_TASKS: u32 = 4096;
@@ -40,6 +40,10 @@ impl<'a, A: Answering> Work for RoundTasks<'a, A> {
 
     fn width(&self) -> u32 {
         2 * self.longest + 1
+    }
+
+    fn least(&self) -> u32 {
+        LEAST_SEARCHES
     }
 
     fn run(&self, scratch: &mut A::Scratch, task: u32, out: &mut [u32]) {

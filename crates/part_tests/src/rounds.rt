@@ -10,6 +10,8 @@ use steal_pool::{Post, RayonRounds, Rounds, SerialRounds, StealRounds, Work, pos
 #[derive(Drop)]
 pub(crate) struct Squares {
     pub(crate) tasks: u32,
+    // how many of them make up for a thread, at least 1
+    pub(crate) least: u32,
     // how many tasks were run
     pub(crate) runs: AtomicU64,
 }
@@ -20,6 +22,18 @@ impl Squares {
     {
         Squares {
             tasks,
+            least: 1,
+            runs: AtomicU64::new(0),
+        }
+    }
+
+    // Four tasks, of which so many make up for a thread.
+    pub(crate) fn four_by(least: u32) -> Squares
+        ensures { result.tasks ≡ 4 }
+    {
+        Squares {
+            tasks: 4,
+            least,
             runs: AtomicU64::new(0),
         }
     }
@@ -43,6 +57,10 @@ impl Work for Squares {
 
     fn width(&self) -> u32 {
         2
+    }
+
+    fn least(&self) -> u32 {
+        self.least.max(1)
     }
 
     fn run(&self, _scratch: &mut u32, task: u32, out: &mut [u32]) {

@@ -163,14 +163,14 @@ fn serial_pools_run_all_as_worker_0(rt: HostRuntime) -> Result<(), Fail> {
 
 #[test]
 fn a_round_of_few_tasks_is_run_by_its_caller(rt: HostRuntime) -> Result<(), Fail> {
-    let work = Squares::of(4);
+    let work = Squares::four_by(3);
     let mut posts = [Post::new(7u32), Post::new(7u32)];
     let gate = WaitGate::of_neighbours(HASTY);
-    let mut pool = Pool::new(Way::Stealing, 2).with_least(3);
+    let mut pool = Pool::new(Way::Stealing, 2).sparing();
     let _blocks = pool.run_round(&rt, rt.alloc(), &work, &mut posts, &gate)?;
     assert!(rt; gate.is_late() && gate.is_begun_by(1, 0) && gate.is_begun_by(2, 0));
+    let work = Squares::four_by(2);
     let gate = WaitGate::of_neighbours(PATIENT);
-    let mut pool = Pool::new(Way::Stealing, 2).with_least(2);
     let _blocks = pool.run_round(&rt, rt.alloc(), &work, &mut posts, &gate)?;
     assert!(rt; !gate.is_late() && gate.is_begun_by(1, 1));
     Ok(())

@@ -36,4 +36,4 @@ pub use rounds::Rounds;
 pub use serial::SerialRounds;
 pub use steal_rounds::StealRounds;
 pub use steal_table::{Blocks, Board, Claim, Pass, Report};
-pub use work::Work;
+pub use work::{LEAST_SEARCHES, Work};

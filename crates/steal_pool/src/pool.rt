@@ -7,15 +7,15 @@ use ann_defs::Way;
 
 /// Workers that run each round in the way that was asked for.
 ///
-/// A worker takes part in a round only if there are `least` tasks for it, which is 1 where nothing else was asked for.
-/// The others do nothing, and their posts stay as they are. A round for one worker runs in the caller's thread.
+/// All of them take part in each round, but for a pool that spares threads: there a worker takes part only if there are
+/// as many tasks for it as make up for starting its thread (`Work::least`). The others do nothing, and their posts stay
+/// as they are. A round for one worker runs in the caller's thread.
 #[derive(Drop)]
 pub struct Pool {
     way: Way,
     workers: u32,
-    least: u32,
+    spares: bool,
     ghost in_range: { (0 < workers) × (workers ≤ MAX_WORKERS) },
-    ghost some: { 0 < least },
 }
 
 impl Pool {
@@ -34,20 +34,18 @@ impl Pool {
         Pool {
             way,
             workers,
-            least: 1,
+            spares: false,
         }
     }
 
-    /// The same pool with so many tasks as the least for a worker. Threads cost more than they bring to rounds of few
-    /// short tasks: of fewer than twice the least, a round starts none.
-    pub fn with_least(self, tasks: u32) -> Pool
-        requires { 0 < tasks }
+    /// The same pool, but that it spares threads: they cost more than they bring to rounds of few short tasks.
+    pub fn sparing(self) -> Pool
         ensures { pool_workers result ≡ pool_workers self }
     {
         Pool {
             way: self.way,
             workers: self.workers,
-            least: tasks,
+            spares: true,
         }
     }
 }
@@ -61,16 +59,20 @@ impl Rounds for Pool {
         self.workers
     }
 
-    fn way(&self, tasks: u32) -> Way {
-        if self.busy(tasks) == 1 {
+    fn way(&self, shares: u32) -> Way {
+        if self.busy(shares) == 1 {
             Way::Serial
         } else {
             self.way
         }
     }
 
-    fn busy(&self, tasks: u32) -> u32 {
-        (tasks / self.least).clamp(1, self.workers)
+    fn busy(&self, shares: u32) -> u32 {
+        if self.spares {
+            shares.clamp(1, self.workers)
+        } else {
+            self.workers
+        }
     }
 
     ghost few = { λ p. p.in_range };

@@ -36,11 +36,11 @@ impl Rounds for RayonRounds {
         self.workers
     }
 
-    fn way(&self, _tasks: u32) -> Way {
+    fn way(&self, _shares: u32) -> Way {
         Way::Shares
     }
 
-    fn busy(&self, _tasks: u32) -> u32 {
+    fn busy(&self, _shares: u32) -> u32 {
         self.workers
     }
 

@@ -23,11 +23,11 @@ pub trait Rounds {
     fn workers(&self) -> u32
         ensures { result ≡ count self.now };
 
-    /// How this pool runs a round of so many tasks. The blocks don't depend on it.
-    fn way(&self, tasks: u32) -> Way;
+    /// How this pool runs a round that has tasks enough for so many workers. The blocks don't depend on it.
+    fn way(&self, shares: u32) -> Way;
 
-    /// How many of the workers, the first ones, run a round of so many tasks. The blocks don't depend on it.
-    fn busy(&self, tasks: u32) -> u32
+    /// How many of the workers, the first ones, run such a round. The blocks don't depend on it.
+    fn busy(&self, shares: u32) -> u32
         ensures { (0 < result) × (result ≤ count self.now) };
 
     ghost few: { (pool : Self) → (0 < count pool) × (count pool ≤ MAX_WORKERS) };
@@ -53,8 +53,8 @@ pub trait Rounds {
         ensures serve { AllServe (W.serves work.now) posts.new }
         ensures workers { count self.new ≡ count self.old }
     {
-        let tasks = work.tasks();
-        let (way, busy) = (self.way(tasks), self.busy(tasks));
+        let shares = work.tasks() / work.least();
+        let (way, busy) = (self.way(shares), self.busy(shares));
         run_in_way(way, busy, rt, alloc, work, posts, gate)
     }
 }

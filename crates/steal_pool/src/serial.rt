@@ -28,11 +28,11 @@ impl Rounds for SerialRounds {
         1
     }
 
-    fn way(&self, _tasks: u32) -> Way {
+    fn way(&self, _shares: u32) -> Way {
         Way::Serial
     }
 
-    fn busy(&self, _tasks: u32) -> u32 {
+    fn busy(&self, _shares: u32) -> u32 {
         1
     }
 

@@ -35,11 +35,11 @@ impl Rounds for StealRounds {
         self.workers
     }
 
-    fn way(&self, _tasks: u32) -> Way {
+    fn way(&self, _shares: u32) -> Way {
         Way::Stealing
     }
 
-    fn busy(&self, _tasks: u32) -> u32 {
+    fn busy(&self, _shares: u32) -> u32 {
         self.workers
     }
 

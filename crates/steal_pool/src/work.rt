@@ -1,6 +1,9 @@
 //! What a round computes.
 ghost use Rattle.std.specs.Prelude.{◌≡◌, ℕ, ◌<◌, List, [], length, slice_index_or};
 
+/// How many searches of a graph make up for starting a thread.
+pub const LEAST_SEARCHES: u32 = 16;
+
 /// A list of tasks, numbered from 0, each with a block of words that it wants.
 ///
 /// Workers share it and run its tasks at the same time, each with a scratch of its own.
@@ -24,6 +27,13 @@ pub trait Work: Sync {
     /// How many words each block has.
     fn width(&self) -> u32
         ensures { result ≡ wide self.now };
+
+    /// How many of its tasks make up for starting a thread: a pool that spares threads gives no worker fewer.
+    fn least(&self) -> u32
+        ensures { 0 < result }
+    {
+        1
+    }
 
     /// Writes the block of a task, whatever the block and the scratch held. It takes no memory.
     fn run(&self, scratch: &mut Self::Scratch, task: u32, out: &mut [u32])

@@ -13,7 +13,7 @@ use crate::row::new_row;
 use batch_insert::seal;
 use beam_search::Scratch;
 use graph_rows::FlatGraph;
-use steal_pool::Work;
+use steal_pool::{LEAST_SEARCHES, Work};
 
 /// A task for each point of a batch: its new row in the graph before the batch. The points are in ascending order.
 #[derive(Drop)]
@@ -42,6 +42,10 @@ impl<'a> Work for NewRows<'a> {
 
     fn width(&self) -> u32 {
         self.plan.settings.degree + 1
+    }
+
+    fn least(&self) -> u32 {
+        LEAST_SEARCHES
     }
 
     fn run(&self, scratch: &mut Scratch, task: u32, out: &mut [u32]) {
