@@ -6,7 +6,7 @@ ghost use Rattle.ann_shelf.specs.Files.{no_files, bytes_of, with_file, without_f
 ghost use Rattle.ann_shelf.specs.Shown.{OnlyReads, OnlyWrites};
 
 use crate::calls::is_to_fail;
-use crate::faults::failed;
+use crate::faults::counted;
 use crate::named_files::{extend_file, file_at, read_from, set_file, take_file};
 use crate::{NoMemory, Shelf, Slip};
 use std::alloc::Global;
@@ -117,11 +117,11 @@ impl Shelf for MemShelf {
         ensures only_reads { OnlyReads (shelf_shown self.old) (shelf_shown self.new) name.now (IsErrOf result Slip.Failed) }
     {
         if is_to_fail(&mut self.calls, &self.failing) {
-            return Err(failed(&mut self.read_faults));
+            return Err(counted(Slip::Failed, &mut self.read_faults));
         }
         match file_at(&self.files, name) {
             Some(bytes) => Ok(read_from(bytes, at, into)),
-            None => Err(failed(&mut self.read_faults)),
+            None => Err(counted(Slip::Failed, &mut self.read_faults)),
         }
     }
 
@@ -142,7 +142,7 @@ impl Shelf for MemShelf {
         ensures only_writes { OnlyWrites (shelf_shown self.old) (shelf_shown self.new) name.now (IsErrOf result Slip.Failed) }
     {
         if is_to_fail(&mut self.calls, &self.failing) {
-            return Err(failed(&mut self.write_faults));
+            return Err(counted(Slip::Failed, &mut self.write_faults));
         }
         set_file(self.alloc, &mut self.begun, name, Vec::new(self.alloc))?;
         Ok(())
@@ -168,12 +168,12 @@ impl Shelf for MemShelf {
         ensures only_writes { OnlyWrites (shelf_shown self.old) (shelf_shown self.new) name.now (IsErrOf result Slip.Failed) }
     {
         if is_to_fail(&mut self.calls, &self.failing) {
-            return Err(failed(&mut self.write_faults));
+            return Err(counted(Slip::Failed, &mut self.write_faults));
         }
         if extend_file(&mut self.begun, name, bytes)? {
             return Ok(bytes.len());
         }
-        Err(failed(&mut self.write_faults))
+        Err(counted(Slip::Failed, &mut self.write_faults))
     }
 
     /// Fails where its number is set and where the file isn't begun, and nowhere else.
@@ -195,10 +195,10 @@ impl Shelf for MemShelf {
         ensures only_writes { OnlyWrites (shelf_shown self.old) (shelf_shown self.new) name.now (IsErrOf result Slip.Failed) }
     {
         if is_to_fail(&mut self.calls, &self.failing) {
-            return Err(failed(&mut self.write_faults));
+            return Err(counted(Slip::Failed, &mut self.write_faults));
         }
         let Some(bytes) = take_file(&mut self.begun, name) else {
-            return Err(failed(&mut self.write_faults));
+            return Err(counted(Slip::Failed, &mut self.write_faults));
         };
         set_file(self.alloc, &mut self.files, name, bytes)?;
         Ok(())
