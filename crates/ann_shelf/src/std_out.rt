@@ -62,7 +62,10 @@ impl<'r, R: Print + Eprint> Out for StdOut<'r, R> {
     fn write(&mut self, bytes: &[u8]) -> Result<usize, Slip> {
         match write_some(self.rt, self.is_err, bytes) {
             Ok(k) if 0 < k || bytes.is_empty() => Ok(k),
-            Err(e) if e.kind() == ErrorKind::OutOfMemory => Err(counted(Slip::NoMemory, &mut self.wants)),
+            Err(e) if e.kind() == ErrorKind::OutOfMemory => Err(counted(
+                Slip::NoMemory,
+                &mut self.wants,
+            )),
             _ => Err(counted(Slip::Failed, &mut self.faults)),
         }
     }
