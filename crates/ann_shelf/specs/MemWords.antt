@@ -1,5 +1,6 @@
 -- What clauses say of the shelves and of the output in memory.
-use Rattle.std.specs.Prelude.{ℕ, List, Bool, Some}
+use Rattle.std.specs.Prelude.{◌≡◌, ◌⊎◌, ℕ, List, true, false, Some, None, IsSome}
+use Rattle.std.specs.FinMap.{get}
 use Rattle.ann_shelf.specs.declared.mem_shelf.MemShelf.{MemShelf}
 use Rattle.ann_shelf.specs.declared.mem_out.MemOut.{MemOut}
 use Rattle.ann_shelf.specs.declared.sound_shelf.SoundShelf.{SoundShelf}
@@ -7,7 +8,8 @@ use Rattle.ann_shelf.specs.Files.{Files}
 use Rattle.ann_shelf.specs.Shown.{Shown}
 use Rattle.ann_shelf.specs.Written.{Got}
 use Rattle.ann_shelf.specs.NamedFiles.{files_of}
-use Rattle.ann_shelf.specs.Calls.{next_call, is_among}
+use Rattle.ann_shelf.specs.Calls.{Calls, next_fails, one_more}
+use Rattle.ann_shelf.specs.Faults.{next_count}
 
 -- the files that a shelf in memory holds
 abbrev pub shelf_files : MemShelf → Files
@@ -17,17 +19,9 @@ shelf_files s = files_of s.files.items
 abbrev pub shelf_begun : MemShelf → Files
 shelf_begun s = files_of s.begun.items
 
--- how many calls of the trait there were
-abbrev pub shelf_calls : MemShelf → ℕ
+-- the calls of the trait
+abbrev pub shelf_calls : MemShelf → Calls
 shelf_calls s = s.calls
-
--- whether the call with this number is to fail
-abbrev pub shelf_fails : MemShelf → ℕ → Bool
-shelf_fails s = is_among s.failing.items
-
--- whether the next call is to fail
-abbrev pub next_fails : MemShelf → Bool
-next_fails s = shelf_fails s (next_call (shelf_calls s))
 
 -- how many reads failed, of all names together
 abbrev pub shelf_read_faults : MemShelf → ℕ
@@ -45,6 +39,21 @@ shelf_shown s = record {
   read_faults = λ _. shelf_read_faults s;
   write_faults = λ _. shelf_write_faults s;
 }
+
+-- an append or finish fails exactly where its number is set or its file isn't begun; `ok` and `failed` say how it ended
+pub record FailsAsSet (s : MemShelf) (name : List ℕ) (ok failed : Type 0) : Type 0 where
+  pub answered : ok → (next_fails (shelf_calls s) ≡ false) × IsSome (get (shelf_begun s) name)
+  pub set : next_fails (shelf_calls s) ≡ true → failed
+  pub missing : get (shelf_begun s) name ≡ None → failed
+  pub refused : failed → (next_fails (shelf_calls s) ≡ true) ⊎ (get (shelf_begun s) name ≡ None)
+
+-- a begin, append or finish counts as one call, and as a failed write exactly where it failed
+pub record WriteCounts (old new : MemShelf) (ok failed no_memory : Type 0) : Type 0 where
+  pub calls : shelf_calls new ≡ one_more (shelf_calls old)
+  pub counted : failed → shelf_write_faults new ≡ next_count (shelf_write_faults old)
+  pub uncounted : ok → shelf_write_faults new ≡ shelf_write_faults old
+  pub no_memory_uncounted : no_memory → shelf_write_faults new ≡ shelf_write_faults old
+  pub reads : shelf_read_faults new ≡ shelf_read_faults old
 
 -- the files that a shelf that never fails holds
 abbrev pub sound_files : SoundShelf → Files
@@ -67,17 +76,9 @@ sound_shown s = record {
 abbrev pub out_bytes : MemOut → List ℕ
 out_bytes o = o.bytes.items
 
--- how many writes there were
-abbrev pub out_calls : MemOut → ℕ
+-- the writes
+abbrev pub out_calls : MemOut → Calls
 out_calls o = o.calls
-
--- whether the write with this number is to fail
-abbrev pub out_fails : MemOut → ℕ → Bool
-out_fails o = is_among o.failing.items
-
--- whether the next write is to fail
-abbrev pub next_write_fails : MemOut → Bool
-next_write_fails o = out_fails o (next_call (out_calls o))
 
 -- how many writes failed
 abbrev pub out_faults : MemOut → ℕ

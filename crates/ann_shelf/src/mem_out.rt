@@ -1,10 +1,10 @@
 ghost use Rattle.std.specs.Prelude.{◌≡◌, true, false, ◌||◌, ◌==◌, ◌++◌, [], ℕ, length, OnOk, OnErr, IfOk, IsErrOf};
-ghost use Rattle.ann_shelf.specs.Calls.{next_call};
+ghost use Rattle.ann_shelf.specs.Calls.{fails, next_fails, no_calls, one_more};
 ghost use Rattle.ann_shelf.specs.Faults.{next_count};
 ghost use Rattle.ann_shelf.specs.Written.{OnlyWritten};
 
-use crate::calls::is_to_fail;
-use crate::faults::{failed, wanted};
+use crate::calls::CallLog;
+use crate::faults::counted;
 use crate::{NoMemory, Out, Slip};
 use std::alloc::Global;
 
@@ -12,27 +12,24 @@ use std::alloc::Global;
 #[derive(Drop)]
 pub struct MemOut {
     bytes: Vec<u8>,
-    calls: u64,
-    failing: Vec<u64>,
+    calls: CallLog,
     faults: u64,
     wants: u64,
 }
 
 impl MemOut {
-    ghost use Rattle.ann_shelf.specs.MemWords.{out_bytes, out_calls, out_fails, out_faults, out_wants};
+    ghost use Rattle.ann_shelf.specs.MemWords.{out_bytes, out_calls, out_faults, out_wants};
 
     /// No bytes, and no write that fails. It keeps the allocator and takes no memory.
     pub fn new(alloc: Global) -> MemOut
         ensures bytes { out_bytes result ≡ [] }
-        ensures calls { out_calls result ≡ 0 }
-        ensures failing { (n : ℕ) → out_fails result n ≡ false }
+        ensures calls { out_calls result ≡ no_calls }
         ensures faults { out_faults result ≡ 0 }
         ensures wants { out_wants result ≡ 0 }
     {
         MemOut {
             bytes: Vec::new(alloc),
-            calls: 0,
-            failing: Vec::new(alloc),
+            calls: CallLog::new(alloc),
             faults: 0,
             wants: 0,
         }
@@ -40,17 +37,14 @@ impl MemOut {
 
     /// Has the write with this number fail, beside those named before. Number 0 names no write.
     pub fn fail_call(&mut self, number: u64) -> Result<(), NoMemory>
-        ensures ok { OnOk result ((n : ℕ) → out_fails self.new n ≡ (out_fails self.old n || number == n)) }
-        ensures err { OnErr result (out_fails self.new ≡ out_fails self.old) }
+        ensures ok { OnOk result ((n : ℕ) → fails (out_calls self.new) n ≡ (fails (out_calls self.old) n || number == n)) }
+        ensures err { OnErr result (out_calls self.new ≡ out_calls self.old) }
         ensures bytes { out_bytes self.new ≡ out_bytes self.old }
-        ensures calls { out_calls self.new ≡ out_calls self.old }
+        ensures made { (out_calls self.new).made ≡ (out_calls self.old).made }
         ensures faults { out_faults self.new ≡ out_faults self.old }
         ensures wants { out_wants self.new ≡ out_wants self.old }
     {
-        match self.failing.push(number) {
-            Ok(()) => Ok(()),
-            Err(_) => Err(NoMemory),
-        }
+        self.calls.fail(number)
     }
 
     /// The bytes written so far.
@@ -62,7 +56,7 @@ impl MemOut {
 }
 
 impl Out for MemOut {
-    ghost use Rattle.ann_shelf.specs.MemWords.{out_bytes, out_calls, out_fails, next_write_fails, out_faults, out_wants, out_got};
+    ghost use Rattle.ann_shelf.specs.MemWords.{out_bytes, out_calls, out_faults, out_wants, out_got};
 
     ghost got = { out_got };
 
@@ -71,22 +65,21 @@ impl Out for MemOut {
         ensures whole { IfOk result (λ k. k ≡ length bytes.now) }
         ensures ok { OnOk result (out_bytes self.new ≡ out_bytes self.old ++ bytes.now) }
         ensures err { OnErr result (out_bytes self.new ≡ out_bytes self.old) }
-        ensures answered { OnOk result (next_write_fails self.old ≡ false) }
-        ensures set { next_write_fails self.old ≡ true → IsErrOf result Slip.Failed }
-        ensures refused { IsErrOf result Slip.Failed → next_write_fails self.old ≡ true }
-        ensures calls { out_calls self.new ≡ next_call (out_calls self.old) }
-        ensures failing { out_fails self.new ≡ out_fails self.old }
+        ensures answered { OnOk result (next_fails (out_calls self.old) ≡ false) }
+        ensures set { next_fails (out_calls self.old) ≡ true → IsErrOf result Slip.Failed }
+        ensures refused { IsErrOf result Slip.Failed → next_fails (out_calls self.old) ≡ true }
+        ensures calls { out_calls self.new ≡ one_more (out_calls self.old) }
         ensures uncounted { OnOk result ((out_faults self.new ≡ out_faults self.old) × (out_wants self.new ≡ out_wants self.old)) }
         ensures fault_counted { IsErrOf result Slip.Failed → (out_faults self.new ≡ next_count (out_faults self.old)) × (out_wants self.new ≡ out_wants self.old) }
         ensures want_counted { IsErrOf result Slip.NoMemory → (out_wants self.new ≡ next_count (out_wants self.old)) × (out_faults self.new ≡ out_faults self.old) }
         ensures only_written { OnlyWritten (out_got self.old) (out_got self.new) (IsErrOf result Slip.Failed) (IsErrOf result Slip.NoMemory) }
     {
-        if is_to_fail(&mut self.calls, &self.failing) {
-            return Err(failed(&mut self.faults));
+        if self.calls.is_to_fail() {
+            return Err(counted(Slip::Failed, &mut self.faults));
         }
         match self.bytes.extend_from_slice(bytes) {
             Ok(()) => Ok(bytes.len()),
-            Err(_) => Err(wanted(&mut self.wants)),
+            Err(_) => Err(counted(Slip::NoMemory, &mut self.wants)),
         }
     }
 }

@@ -1,12 +1,12 @@
-ghost use Rattle.std.specs.Prelude.{◌≡◌, ◌⊎◌, true, false, ◌||◌, ◌==◌, ◌++◌, [], ◌≤◌, ℕ, None, length, OnOk, OnErr, IfOk, IfErr, IsSome, IsErrOf, option_map};
+ghost use Rattle.std.specs.Prelude.{◌≡◌, ◌⊎◌, true, false, ◌||◌, ◌==◌, ◌++◌, [], ◌≤◌, ℕ, None, length, OnOk, OnErr, IfOk, IfErr, IsSome, IsOk, IsErrOf, option_map};
 ghost use Rattle.std.specs.FinMap.{get};
-ghost use Rattle.ann_shelf.specs.Calls.{next_call};
+ghost use Rattle.ann_shelf.specs.Calls.{fails, next_fails, no_calls, one_more};
 ghost use Rattle.ann_shelf.specs.Faults.{next_count};
 ghost use Rattle.ann_shelf.specs.Files.{no_files, bytes_of, with_file, without_file, Reads};
 ghost use Rattle.ann_shelf.specs.Shown.{OnlyReads, OnlyWrites};
 
-use crate::calls::is_to_fail;
-use crate::faults::failed;
+use crate::calls::CallLog;
+use crate::faults::counted;
 use crate::named_files::{extend_file, file_at, read_from, set_file, take_file};
 use crate::{NoMemory, Shelf, Slip};
 use std::alloc::Global;
@@ -21,21 +21,19 @@ pub struct MemShelf {
     alloc: Global,
     files: Vec<(String, Vec<u8>)>,
     begun: Vec<(String, Vec<u8>)>,
-    calls: u64,
-    failing: Vec<u64>,
+    calls: CallLog,
     read_faults: u64,
     write_faults: u64,
 }
 
 impl MemShelf {
-    ghost use Rattle.ann_shelf.specs.MemWords.{shelf_files, shelf_begun, shelf_calls, shelf_fails, shelf_read_faults, shelf_write_faults};
+    ghost use Rattle.ann_shelf.specs.MemWords.{shelf_files, shelf_begun, shelf_calls, shelf_read_faults, shelf_write_faults};
 
     /// No files, and no call that fails. It keeps the allocator and takes no memory.
     pub fn new(alloc: Global) -> MemShelf
         ensures files { shelf_files result ≡ no_files }
         ensures begun { shelf_begun result ≡ no_files }
-        ensures calls { shelf_calls result ≡ 0 }
-        ensures failing { (n : ℕ) → shelf_fails result n ≡ false }
+        ensures calls { shelf_calls result ≡ no_calls }
         ensures reads { shelf_read_faults result ≡ 0 }
         ensures writes { shelf_write_faults result ≡ 0 }
     {
@@ -43,8 +41,7 @@ impl MemShelf {
             alloc,
             files: Vec::new(alloc),
             begun: Vec::new(alloc),
-            calls: 0,
-            failing: Vec::new(alloc),
+            calls: CallLog::new(alloc),
             read_faults: 0,
             write_faults: 0,
         }
@@ -56,7 +53,6 @@ impl MemShelf {
         ensures err { OnErr result (shelf_files self.new ≡ shelf_files self.old) }
         ensures begun { shelf_begun self.new ≡ shelf_begun self.old }
         ensures calls { shelf_calls self.new ≡ shelf_calls self.old }
-        ensures failing { shelf_fails self.new ≡ shelf_fails self.old }
         ensures reads { shelf_read_faults self.new ≡ shelf_read_faults self.old }
         ensures writes { shelf_write_faults self.new ≡ shelf_write_faults self.old }
     {
@@ -74,30 +70,29 @@ impl MemShelf {
 
     /// Has the call with this number fail, beside those named before. Number 0 names no call.
     pub fn fail_call(&mut self, number: u64) -> Result<(), NoMemory>
-        ensures ok { OnOk result ((n : ℕ) → shelf_fails self.new n ≡ (shelf_fails self.old n || number == n)) }
-        ensures err { OnErr result (shelf_fails self.new ≡ shelf_fails self.old) }
+        ensures ok { OnOk result ((n : ℕ) → fails (shelf_calls self.new) n ≡ (fails (shelf_calls self.old) n || number == n)) }
+        ensures err { OnErr result (shelf_calls self.new ≡ shelf_calls self.old) }
         ensures files { shelf_files self.new ≡ shelf_files self.old }
         ensures begun { shelf_begun self.new ≡ shelf_begun self.old }
-        ensures calls { shelf_calls self.new ≡ shelf_calls self.old }
+        ensures made { (shelf_calls self.new).made ≡ (shelf_calls self.old).made }
         ensures reads { shelf_read_faults self.new ≡ shelf_read_faults self.old }
         ensures writes { shelf_write_faults self.new ≡ shelf_write_faults self.old }
     {
-        self.failing.push(number)?;
-        Ok(())
+        self.calls.fail(number)
     }
 
     /// How many calls of the trait there were. It stays at the last value of `u64`.
     pub fn calls(&self) -> u64
-        ensures { result ≡ shelf_calls self.now }
+        ensures { result ≡ (shelf_calls self.now).made }
     {
-        self.calls
+        self.calls.made()
     }
 }
 
 impl Shelf for MemShelf {
     ghost use Rattle.std.specs.Prelude.{refl};
     ghost use Rattle.ann_shelf.specs.declared.slip.Slip.TheVariants.{Failed};
-    ghost use Rattle.ann_shelf.specs.MemWords.{shelf_files, shelf_begun, shelf_calls, shelf_fails, next_fails, shelf_read_faults, shelf_write_faults, shelf_shown};
+    ghost use Rattle.ann_shelf.specs.MemWords.{shelf_files, shelf_begun, shelf_calls, shelf_read_faults, shelf_write_faults, shelf_shown, FailsAsSet, WriteCounts};
 
     ghost shown = { shelf_shown };
 
@@ -107,98 +102,76 @@ impl Shelf for MemShelf {
     fn read_at(&mut self, name: &str, at: u64, into: &mut [u8]) -> Result<usize, Slip>
         ensures bound { IfOk result (λ k. k ≤ length into.new) }
         ensures bytes { IfOk result (λ k. Reads (bytes_of (shelf_files self.old) name.now) at k into.new) }
-        ensures answered { OnOk result ((next_fails self.old ≡ false) × IsSome (get (shelf_files self.old) name.now)) }
-        ensures refused { IfErr result (λ slip. (slip ≡ Slip.Failed) × ((next_fails self.old ≡ true) ⊎ (get (shelf_files self.old) name.now ≡ None))) }
-        ensures calls { shelf_calls self.new ≡ next_call (shelf_calls self.old) }
-        ensures failing { shelf_fails self.new ≡ shelf_fails self.old }
+        ensures answered { OnOk result ((next_fails (shelf_calls self.old) ≡ false) × IsSome (get (shelf_files self.old) name.now)) }
+        ensures refused { IfErr result (λ slip. (slip ≡ Slip.Failed) × ((next_fails (shelf_calls self.old) ≡ true) ⊎ (get (shelf_files self.old) name.now ≡ None))) }
+        ensures calls { shelf_calls self.new ≡ one_more (shelf_calls self.old) }
         ensures counted { OnErr result (shelf_read_faults self.new ≡ next_count (shelf_read_faults self.old)) }
         ensures uncounted { OnOk result (shelf_read_faults self.new ≡ shelf_read_faults self.old) }
         ensures writes { shelf_write_faults self.new ≡ shelf_write_faults self.old }
         ensures only_reads { OnlyReads (shelf_shown self.old) (shelf_shown self.new) name.now (IsErrOf result Slip.Failed) }
     {
-        if is_to_fail(&mut self.calls, &self.failing) {
-            return Err(failed(&mut self.read_faults));
+        if self.calls.is_to_fail() {
+            return Err(counted(Slip::Failed, &mut self.read_faults));
         }
         match file_at(&self.files, name) {
             Some(bytes) => Ok(read_from(bytes, at, into)),
-            None => Err(failed(&mut self.read_faults)),
+            None => Err(counted(Slip::Failed, &mut self.read_faults)),
         }
     }
 
-    /// Fails where its number is set, and nowhere else. Whatever it answers in place of `Ok`, nothing that is begun changed.
+    /// Fails where its number is set, and nowhere else. After a refusal nothing that is begun changed.
     fn begin(&mut self, name: &str) -> Result<(), Slip>
         ensures ok { OnOk result (shelf_begun self.new ≡ with_file (shelf_begun self.old) name.now []) }
         ensures err { OnErr result (shelf_begun self.new ≡ shelf_begun self.old) }
         ensures held { shelf_files self.new ≡ shelf_files self.old }
-        ensures answered { OnOk result (next_fails self.old ≡ false) }
-        ensures set { next_fails self.old ≡ true → IsErrOf result Slip.Failed }
-        ensures refused { IsErrOf result Slip.Failed → next_fails self.old ≡ true }
-        ensures calls { shelf_calls self.new ≡ next_call (shelf_calls self.old) }
-        ensures failing { shelf_fails self.new ≡ shelf_fails self.old }
-        ensures counted { IsErrOf result Slip.Failed → shelf_write_faults self.new ≡ next_count (shelf_write_faults self.old) }
-        ensures uncounted { OnOk result (shelf_write_faults self.new ≡ shelf_write_faults self.old) }
-        ensures no_memory_uncounted { IsErrOf result Slip.NoMemory → shelf_write_faults self.new ≡ shelf_write_faults self.old }
-        ensures reads { shelf_read_faults self.new ≡ shelf_read_faults self.old }
+        ensures answered { OnOk result (next_fails (shelf_calls self.old) ≡ false) }
+        ensures set { next_fails (shelf_calls self.old) ≡ true → IsErrOf result Slip.Failed }
+        ensures refused { IsErrOf result Slip.Failed → next_fails (shelf_calls self.old) ≡ true }
+        ensures counts { WriteCounts self.old self.new (IsOk result) (IsErrOf result Slip.Failed) (IsErrOf result Slip.NoMemory) }
         ensures only_writes { OnlyWrites (shelf_shown self.old) (shelf_shown self.new) name.now (IsErrOf result Slip.Failed) }
     {
-        if is_to_fail(&mut self.calls, &self.failing) {
-            return Err(failed(&mut self.write_faults));
+        if self.calls.is_to_fail() {
+            return Err(counted(Slip::Failed, &mut self.write_faults));
         }
         set_file(self.alloc, &mut self.begun, name, Vec::new(self.alloc))?;
         Ok(())
     }
 
     /// Takes the whole piece. Fails where its number is set and where the file isn't begun, and nowhere else.
-    /// Whatever it answers in place of `Ok`, nothing that is begun changed.
+    /// After a refusal nothing that is begun changed.
     fn append(&mut self, name: &str, bytes: &[u8]) -> Result<usize, Slip>
         ensures whole { IfOk result (λ k. k ≡ length bytes.now) }
         ensures ok { OnOk result (shelf_begun self.new ≡ with_file (shelf_begun self.old) name.now (bytes_of (shelf_begun self.old) name.now ++ bytes.now)) }
         ensures err { OnErr result (shelf_begun self.new ≡ shelf_begun self.old) }
         ensures held { shelf_files self.new ≡ shelf_files self.old }
-        ensures answered { OnOk result ((next_fails self.old ≡ false) × IsSome (get (shelf_begun self.old) name.now)) }
-        ensures set { next_fails self.old ≡ true → IsErrOf result Slip.Failed }
-        ensures missing { get (shelf_begun self.old) name.now ≡ None → IsErrOf result Slip.Failed }
-        ensures refused { IsErrOf result Slip.Failed → (next_fails self.old ≡ true) ⊎ (get (shelf_begun self.old) name.now ≡ None) }
-        ensures calls { shelf_calls self.new ≡ next_call (shelf_calls self.old) }
-        ensures failing { shelf_fails self.new ≡ shelf_fails self.old }
-        ensures counted { IsErrOf result Slip.Failed → shelf_write_faults self.new ≡ next_count (shelf_write_faults self.old) }
-        ensures uncounted { OnOk result (shelf_write_faults self.new ≡ shelf_write_faults self.old) }
-        ensures no_memory_uncounted { IsErrOf result Slip.NoMemory → shelf_write_faults self.new ≡ shelf_write_faults self.old }
-        ensures reads { shelf_read_faults self.new ≡ shelf_read_faults self.old }
+        ensures failures { FailsAsSet self.old name.now (IsOk result) (IsErrOf result Slip.Failed) }
+        ensures counts { WriteCounts self.old self.new (IsOk result) (IsErrOf result Slip.Failed) (IsErrOf result Slip.NoMemory) }
         ensures only_writes { OnlyWrites (shelf_shown self.old) (shelf_shown self.new) name.now (IsErrOf result Slip.Failed) }
     {
-        if is_to_fail(&mut self.calls, &self.failing) {
-            return Err(failed(&mut self.write_faults));
+        if self.calls.is_to_fail() {
+            return Err(counted(Slip::Failed, &mut self.write_faults));
         }
         if extend_file(&mut self.begun, name, bytes)? {
             return Ok(bytes.len());
         }
-        Err(failed(&mut self.write_faults))
+        Err(counted(Slip::Failed, &mut self.write_faults))
     }
 
     /// Fails where its number is set and where the file isn't begun, and nowhere else.
-    /// Whatever it answers in place of `Ok`, nothing that is held changed.
+    /// After a refusal nothing that is held changed.
     fn finish(&mut self, name: &str) -> Result<(), Slip>
         ensures ok { OnOk result (shelf_files self.new ≡ with_file (shelf_files self.old) name.now (bytes_of (shelf_begun self.old) name.now)) }
         ensures ended { OnOk result (shelf_begun self.new ≡ without_file (shelf_begun self.old) name.now) }
         ensures err { OnErr result (shelf_files self.new ≡ shelf_files self.old) }
-        ensures answered { OnOk result ((next_fails self.old ≡ false) × IsSome (get (shelf_begun self.old) name.now)) }
-        ensures set { next_fails self.old ≡ true → IsErrOf result Slip.Failed }
-        ensures missing { get (shelf_begun self.old) name.now ≡ None → IsErrOf result Slip.Failed }
-        ensures refused { IsErrOf result Slip.Failed → (next_fails self.old ≡ true) ⊎ (get (shelf_begun self.old) name.now ≡ None) }
-        ensures calls { shelf_calls self.new ≡ next_call (shelf_calls self.old) }
-        ensures failing { shelf_fails self.new ≡ shelf_fails self.old }
-        ensures counted { IsErrOf result Slip.Failed → shelf_write_faults self.new ≡ next_count (shelf_write_faults self.old) }
-        ensures uncounted { OnOk result (shelf_write_faults self.new ≡ shelf_write_faults self.old) }
-        ensures no_memory_uncounted { IsErrOf result Slip.NoMemory → shelf_write_faults self.new ≡ shelf_write_faults self.old }
-        ensures reads { shelf_read_faults self.new ≡ shelf_read_faults self.old }
+        ensures failures { FailsAsSet self.old name.now (IsOk result) (IsErrOf result Slip.Failed) }
+        ensures counts { WriteCounts self.old self.new (IsOk result) (IsErrOf result Slip.Failed) (IsErrOf result Slip.NoMemory) }
         ensures only_writes { OnlyWrites (shelf_shown self.old) (shelf_shown self.new) name.now (IsErrOf result Slip.Failed) }
     {
-        if is_to_fail(&mut self.calls, &self.failing) {
-            return Err(failed(&mut self.write_faults));
+        if self.calls.is_to_fail() {
+            return Err(counted(Slip::Failed, &mut self.write_faults));
         }
         let Some(bytes) = take_file(&mut self.begun, name) else {
-            return Err(failed(&mut self.write_faults));
+            return Err(counted(Slip::Failed, &mut self.write_faults));
         };
         set_file(self.alloc, &mut self.files, name, bytes)?;
         Ok(())

@@ -33,11 +33,12 @@ length-cells d (x ∷ X) each = omega (arith, length-append x (cells X), length-
 lt_32 : (n limit : ℕ) → n ≤ limit → limit < 2 ^ 32 → n < 2 ^ 32
 lt_32 n limit le lt = omega arith
 
-u32-count : (n d : ℕ) (body : List ℕ) → n < 2 ^ 32 → u32_at (to_le_bytes w32 n ++ to_le_bytes w32 d ++ body) 0 ≡ n
-u32-count n d body fits = from_le_bytes-to_le_bytes_4 n fits
+-- the numbers in the header of a text
+count_in : (X : PointSet) → ArePoints X.vectors → u32_at (text X) 0 ≡ length X.vectors
+count_in X are = from_le_bytes-to_le_bytes_4 (length X.vectors) (lt_32 (length X.vectors) MAX_POINTS are.limits.count (lit< tt))
 
-u32-dim : (n d : ℕ) (body : List ℕ) → d < 2 ^ 32 → u32_at (to_le_bytes w32 n ++ to_le_bytes w32 d ++ body) 4 ≡ d
-u32-dim n d body fits = from_le_bytes-to_le_bytes_4 d fits
+dim_in : (X : PointSet) → ArePoints X.vectors → u32_at (text X) 4 ≡ dim_of X.vectors
+dim_in X are = from_le_bytes-to_le_bytes_4 (dim_of X.vectors) (lt_32 (dim_of X.vectors) MAX_DIM are.limits.dim (lit< tt))
 
 pub header_sound : (n d : ℕ) → AreLimits n d → header_verdict n d ≡ None
 header_sound n d limits =
@@ -53,8 +54,8 @@ text_verdict X are =
     let n = length X.vectors in
     let d = dim_of X.vectors in
     let body = file_bytes X.element (cells X.vectors) in
-    let count : u32_at (text X) 0 ≡ n = u32-count n d body (lt_32 n MAX_POINTS are.limits.count (lit< tt)) in
-    let dim : u32_at (text X) 4 ≡ d = u32-dim n d body (lt_32 d MAX_DIM are.limits.dim (lit< tt)) in
+    let count = count_in X are in
+    let dim = dim_in X are in
     verdict_long (text X) (omega arith)
     ∙ ap (λ h. or_else h (body_verdict (length body) (u32_at (text X) 0 * u32_at (text X) 4)))
     (ap (λ m. header_verdict m (u32_at (text X) 4)) count ∙ ap (header_verdict n) dim ∙ header_sound n d are.limits)
@@ -72,8 +73,8 @@ text_points X are =
     let n = length X.vectors in
     let d = dim_of X.vectors in
     let body = file_bytes X.element (cells X.vectors) in
-    let count : u32_at (text X) 0 ≡ n = u32-count n d body (lt_32 n MAX_POINTS are.limits.count (lit< tt)) in
-    let dim : u32_at (text X) 4 ≡ d = u32-dim n d body (lt_32 d MAX_DIM are.limits.dim (lit< tt)) in
+    let count = count_in X are in
+    let dim = dim_in X are in
     let vectors : rows (u32_at (text X) 0) (u32_at (text X) 4) (file_bytes X.element body) ≡ X.vectors =
     ap (λ m. rows m (u32_at (text X) 4) (file_bytes X.element body)) count ∙ ap (λ m. rows n m (file_bytes X.element body)) dim
     ∙ ap (rows n d) (file_bytes_twice X.element (cells X.vectors) (cells_below X.vectors are.bytes)) ∙ rows-cells d X.vectors are.each in

@@ -45,12 +45,12 @@ abbrev pub or_else : Option PointsFault → Option PointsFault → Option Points
 or_else (Some fault) next = Some fault
 or_else None next = next
 
--- none, or the first broken rule of a file with its place
+-- the first broken rule of a file with its place, if there is one
 abbrev pub verdict : List ℕ → Option PointsFault
 verdict bytes =
     if nat_lt (length bytes) 8 then Some (Malformed (length bytes) ShortHeader)
     else or_else (header_verdict (u32_at bytes 0) (u32_at bytes 4)) (body_verdict (length (drop 8 bytes)) (u32_at bytes 0 * u32_at bytes 4))
 
--- the points of this element in a file whose verdict is none
+-- the points of this element in a file that breaks no rule
 abbrev pub points_of : Element → List ℕ → PointSet
 points_of element bytes = record { element = element; vectors = rows (u32_at bytes 0) (u32_at bytes 4) (file_bytes element (drop 8 bytes)) }

@@ -2,7 +2,7 @@
 //! dimension, each a little-endian `u32`, then the points one after another, a byte for each number, signed in `i8bin`.
 //!
 //! `Points` is a point set in memory, which keeps the limits. `read_points` accepts exactly the files that are the
-//! text of one, and answers the first broken rule of any other; `write_points` writes that text. Distances and all
+//! text of one, and fails with the first broken rule of any other; `write_points` writes that text. Distances and all
 //! that is built over points are the affair of other crates.
 #![tactic(auto)]
 

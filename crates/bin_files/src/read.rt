@@ -17,7 +17,7 @@ use std::alloc::Global;
 // How many bytes one call of a shelf is asked for at most.
 const PIECE: usize = 262144;
 
-/// Reads from a place of a file on, in bytes from 0, until the buffer is full or the file ends, and answers how many
+/// Reads from a place of a file on, in bytes from 0, until the buffer is full or the file ends, and returns how many
 /// bytes came. Each call of the shelf puts at most 262,144 bytes straight into their place.
 pub fn read_full<F: Shelf>(
     shelf: &mut F,

@@ -54,7 +54,8 @@ fn append_points<F: Shelf>(shelf: &mut F, name: &str, points: &Points) -> Result
     }
 }
 
-/// Writes a file of points, in the place of what the file held. It takes no memory of its own, but passes on the shelf's want.
+/// Writes a file of points, in the place of what the file held. It takes no memory of its own, but fails with
+/// `NoMemory` where the shelf does.
 ///
 /// After a refusal all files are as they were.
 pub fn write_points<F: Shelf>(shelf: &mut F, name: &str, points: &Points) -> Result<(), Slip>

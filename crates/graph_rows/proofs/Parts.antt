@@ -1,9 +1,9 @@
 -- Parts of equal length.
-use Rattle.std.proofs.Common.{◌≡◌, ℕ, ◌+◌, ◌*◌, ◌<◌, ◌≤◌, List, [], length, ap, ◌∙◌, arith, length-take, length-drop}
+use Rattle.std.proofs.Common.{◌≡◌, ℕ, ◌+◌, ◌*◌, ◌<◌, ◌≤◌, List, [], length, arith, length-take, length-drop}
 use Rattle.std.specs.Prelude.{slice_range}
 use Rattle.std.proofs.Math.Nat.{mul-le-mul_right}
 use Rattle.std.proofs.lemmas.List.FromFn.{length-map-range_with_len, get_or-map-range_with_len}
-use Rattle.ann_defs.specs.Distance.{point, dim_of}
+use Rattle.ann_defs.specs.Distance.{point}
 use Rattle.graph_rows.specs.Blocks.{rows_of}
 
 pub length-rows : (n d : ℕ) (bytes : List ℕ) → length (rows_of n d bytes) ≡ n
@@ -17,6 +17,3 @@ ends_within n d bytes i h e = let more : (i + 1) * d ≤ n * d = grind (arith, m
 
 pub length-point : (n d : ℕ) (bytes : List ℕ) (i : ℕ) → i < n → length bytes ≡ n * d → length (slice_range bytes (i * d) (i * d + d)) ≡ d
 length-point n d bytes i h e = let within = ends_within n d bytes i h e in simp (length-take, length-drop) (omega arith)
-
-pub dim-rows : (n d : ℕ) (bytes : List ℕ) → 0 < n → length bytes ≡ n * d → dim_of (rows_of n d bytes) ≡ d
-dim-rows n d bytes some e = ap length (point-rows n d bytes 0 some) ∙ length-point n d bytes 0 some e

@@ -33,7 +33,7 @@ impl Model for FlatGraph {
     ghost invariant = { λ g. AreBlocks g.count g.width g.words.items };
 }
 
-/// Writes a row into its block: the length, and then the ids.
+// Writes a row into its block: the length, and then the ids.
 fn write_block(block: &mut [u32], ids: &[u32])
     requires small { length ids.now ≤ MAX_DEGREE }
     requires room { length ids.now + 1 ≤ length block.old }
@@ -127,7 +127,7 @@ impl FlatGraph {
         ensures { result ≡ longest_in self.now.rows }
     {
         let mut longest = 0u32;
-        for i in 0..self.count {
+        for i in 0..self.count() {
             longest = longest.max(self.at(i).len() as u32);
         }
         longest

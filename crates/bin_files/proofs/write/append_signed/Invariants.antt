@@ -1,16 +1,13 @@
-use Rattle.std.proofs.Common.{◌≡◌, ◌-◌, ◌≤◌, length, take}
+use Rattle.std.proofs.Common.{◌-◌, ◌≤◌, length, take}
 use Rattle.ann_defs.specs.declared.kinds.Element.TheVariants.{I8}
-use Rattle.ann_shelf.specs.Files.{Grows}
-use Rattle.ann_shelf.specs.Shown.{OnlyWrites}
+use Rattle.ann_shelf.proofs.Appended.{IsAppended}
 use Rattle.bin_files.specs.Points.{file_bytes}
 use Rattle.bin_files.proofs.write.append_signed.Given as goal
 
 abbrev pub invariant-loop-done : goal.invariant-loop-done
 invariant-loop-done g l = record {
   within : l.done ≤ length l.stored;
-  grows : Grows (g.F.Shelf.shown l.fn.shelf).begun (g.F.Shelf.shown l.shelf).begun l.name (file_bytes I8 (take l.done l.stored));
-  held : (g.F.Shelf.shown l.shelf).held ≡ (g.F.Shelf.shown l.fn.shelf).held;
-  only : OnlyWrites (g.F.Shelf.shown l.fn.shelf) (g.F.Shelf.shown l.shelf) l.name ⊥;
+  so_far : IsAppended (g.F.Shelf.shown l.fn.shelf) (g.F.Shelf.shown l.shelf) l.name (file_bytes I8 (take l.done l.stored));
 }
 
 abbrev pub decreases-loop-done : goal.decreases-loop-done
