@@ -33,8 +33,8 @@ impl Model for Layer {
     ghost invariant = { λ l. AreLayered l.ids.items l.graph.rows };
 }
 
-// Where an id stands among ids that ascend.
-pub(crate) fn find(ids: &[u32], id: u32) -> Option<usize>
+/// Where an id stands among ids that ascend, or None if it isn't there. Found by halves.
+pub fn place_of(ids: &[u32], id: u32) -> Option<usize>
     requires { Ascends ids.now }
     ensures { MatchOption result (has ids.now id ≡ false) (λ i. (i < length ids.now) × (i ≡ place_in ids.now id) × (has ids.now id ≡ true)) }
 {
@@ -81,7 +81,7 @@ impl Layer {
         requires ids { length ids.now ≤ self.old.width }
         ensures { self.new ≡ with_layer_row self.old id ids.now }
     {
-        match find(&self.ids, id) {
+        match place_of(&self.ids, id) {
             Some(i) => self.graph.set_row(i as u32, ids),
             None => {}
         }
@@ -124,11 +124,11 @@ impl Rows for Layer {
     ghost row_of = { λ l u. layer_row l u };
 
     fn holds(&self, id: u32) -> bool {
-        find(&self.ids, id).is_some()
+        place_of(&self.ids, id).is_some()
     }
 
     fn row(&self, id: u32) -> &[u32] {
-        match find(&self.ids, id) {
+        match place_of(&self.ids, id) {
             Some(i) => self.graph.at(i as u32),
             None => &[],
         }

@@ -17,7 +17,7 @@ mod stamp;
 pub use ann_defs::Kind;
 pub use flat::FlatGraph;
 pub use index::Index;
-pub use layer::Layer;
+pub use layer::{Layer, place_of};
 pub use members::Members;
 pub use rows::Rows;
 pub use stamp::Stamp;

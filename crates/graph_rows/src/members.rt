@@ -2,7 +2,7 @@
 ghost use Rattle.std.specs.Prelude.{◌≡◌, ◌<◌, ◌≤◌, length, slice_index};
 ghost use Rattle.graph_rows.specs.Members.{holds, owns, count_in, AreAscending};
 
-use crate::layer::find;
+use crate::layer::place_of;
 use ann_defs::MAX_POINTS;
 
 /// All ids below a count, or listed ones.
@@ -20,7 +20,7 @@ impl<'a> Members<'a> {
     {
         match self {
             Members::Below(count) => id < count,
-            Members::Listed(ids) => find(ids, id).is_some(),
+            Members::Listed(ids) => place_of(ids, id).is_some(),
         }
     }
 

@@ -11,5 +11,5 @@ told ids id (Some i) m = sym m.2
 
 pub returns : goal.returns
 returns c =
-    c.is_some.ensures ∙ told c.deref.result.now c.args.id c.find.result c.find.ensures
+    c.is_some.ensures ∙ told c.deref.result.now c.args.id c.place_of.result c.place_of.ensures
     ∙ layer_has c.args.self.now c.self.inside.graph.width c.self.inside.ids.items c.deref.result.now c.self.inside.graph.rows c.args.id c.self.view_is c.self.invariant.same c.deref.ensures.value

@@ -1,7 +1,7 @@
 use Rattle.std.proofs.Common.{Ok, Err}
 use Rattle.std.proofs.lemmas.List.Sorted.{searched}
 use Rattle.graph_rows.proofs.Finding.{rises, found, missing}
-use Rattle.batch_insert.proofs.ids.place_of.Goals as goal
+use Rattle.graph_rows.proofs.layer.place_of.Goals as goal
 
 pub returns-in-Ok : goal.returns-in-Ok
 returns-in-Ok c =
