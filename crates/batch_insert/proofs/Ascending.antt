@@ -11,7 +11,7 @@ use Rattle.std.proofs.lemmas.Cmp.{ranked}
 use Rattle.std.proofs.lemmas.List.Elements.{Contains-get_or}
 use Rattle.ann_defs.specs.Graph.{has}
 use Rattle.ann_defs.specs.Ordered.{Has, Rises, IsBelow, Ascends, ordered}
-use Rattle.ann_defs.proofs.Order.{Rises-fold_put, same_rising, fold_has, has_fold_new, All_has, below_has, has_from_Contains}
+use Rattle.ann_defs.proofs.Order.{Rises-fold_put, fold_has, has_fold_new, All_has, below_has, has_from_Contains}
 use Rattle.ann_defs.proofs.Members.{all_from_has, has_true, true_has}
 use Rattle.batch_insert.proofs.Grouping.{nat_order}
 
@@ -56,10 +56,6 @@ rises_less (x ∷ xs) up zero (suc j) h within =
     ranked x (get_or xs j 0) Less (sym (below_has nat_cmp nat_order x (get_or xs j 0) xs up.0 (has_from_Contains xs (get_or xs j 0) (Contains-get_or xs j 0 (omega arith)))))
 rises_less (x ∷ xs) up (suc i) zero h within = absurd (omega arith)
 rises_less (x ∷ xs) up (suc i) (suc j) h within = rises_less xs up.1 i j (omega arith) (omega arith)
-
--- in order, it stays as it is
-pub ordered_again : (xs : List ℕ) → ordered nat_cmp xs ≡ ordered nat_cmp (ordered nat_cmp xs)
-ordered_again xs = same_rising nat_cmp nat_order (ordered nat_cmp xs) (ordered nat_cmp (ordered nat_cmp xs)) (ordered_rises xs) (ordered_rises (ordered nat_cmp xs)) (has_ordered (ordered nat_cmp xs)) (ordered_has (ordered nat_cmp xs))
 
 pub All-ordered : (P : ℕ → Type 0) (xs : List ℕ) → All P xs → All P (ordered nat_cmp xs)
 All-ordered P xs h = all_from_has P (ordered nat_cmp xs) (λ u m. All_has P xs u h (ordered_has xs u m))

@@ -12,8 +12,7 @@ use Rattle.std.proofs.lemmas.List.FromFn.{length-map-range_with_len, length-rang
 use Rattle.std.proofs.lemmas.Slice.Eq.{slice_eq-Decides}
 use Rattle.ann_defs.specs.Graph.{row_in}
 use Rattle.ann_defs.specs.Ordered.{Has}
-use Rattle.ann_defs.proofs.Order.{has-map}
-use Rattle.ann_defs.proofs.Members.{filter_has, both_and}
+use Rattle.ann_defs.proofs.Members.{both_and}
 use Rattle.graph_rows.specs.Flat.{Flat}
 use Rattle.batch_insert.specs.Changes.{differing, put, put_all}
 
@@ -52,14 +51,6 @@ module _ (old new : ℕ → List ℕ) where
 
   pub differing_more : (u : ℕ) → differing old new (range_with_len 0 (u + 1)) ≡ differing old new (range_with_len 0 u) ++ cond (differs u) ((u, new u) ∷ []) []
   differing_more u = let z : 0 + u ≡ u = omega arith in ap (differing old new) (range_more 0 u ∙ ap (λ v. range_with_len 0 u ++ v ∷ []) z) ∙ differing_push (range_with_len 0 u) u
-
-  -- each entry has its id's new row
-  pub entry_from : (us : List ℕ) (e : ℕ × List ℕ) → Has (differing old new us) e → Has us e.0 × (e.1 ≡ new e.0)
-  entry_from us e h =
-      let from = has-map (entry new) (filter differs us) e h in
-      let id : from.0 ≡ e.0 = ap (λ (q : ℕ × List ℕ). q.0) from.2 in
-      let row : new from.0 ≡ e.1 = ap (λ (q : ℕ × List ℕ). q.1) from.2 in
-      (subst (Has us) id (filter_has differs us from.0 from.1).0, sym row ∙ ap new id)
 
   -- ids whose rows stay don't count
   pub differing_on : (from d : ℕ) → ((u : ℕ) → from ≤ u → u < from + d → new u ≡ old u) → differing old new (range_with_len 0 (from + d)) ≡ differing old new (range_with_len 0 from)

@@ -22,7 +22,7 @@ drop_on xs ys k r h e =
     let n : k + (r - k) ≡ r = omega arith in
     sym (ap (λ m. drop m xs) n) ∙ sym (drop-drop (r - k) k xs) ∙ ap (λ zs. drop (r - k) zs) e ∙ drop-drop (r - k) k ys ∙ ap (λ m. drop m ys) n
 
-pub ids-near : (points : List (List ℕ)) (q : List ℕ) (xs : List ℕ) → ids_of (all_near points q xs) ≡ xs
+ids-near : (points : List (List ℕ)) (q : List ℕ) (xs : List ℕ) → ids_of (all_near points q xs) ≡ xs
 ids-near points q [] = refl
 ids-near points q (x ∷ xs) = ap (λ ys. x ∷ ys) (ids-near points q xs)
 
@@ -45,17 +45,17 @@ module _ (points : List (List ℕ)) (p : ℕ) (row sources : List ℕ) where
   added = added_to row sources
 
   -- what is laid out one after the other
-  pub laid : (first all : List Near) → first ≡ all_near points q row → all ≡ first ++ all_near points q (filter (λ s. not (has row s)) sources) → all ≡ all_near points q added
+  laid : (first all : List Near) → first ≡ all_near points q row → all ≡ first ++ all_near points q (filter (λ s. not (has row s)) sources) → all ≡ all_near points q added
   laid first all e f = f ∙ ap (λ (xs : List Near). xs ++ all_near points q (filter (λ s. not (has row s)) sources)) e ∙ sym (map-append (near_of points q) row (filter (λ s. not (has row s)) sources))
 
-  pub same_length : (all : List Near) → all ≡ all_near points q added → length all ≡ length added
+  same_length : (all : List Near) → all ≡ all_near points q added → length all ≡ length added
   same_length all e = ap length e ∙ length-map added (near_of points q)
 
   module _ (bound : ℕ) (good : IsGoodRow (length points) bound p row) (are : AreSources (length points) p sources) where
     added_others : All (λ v. v ≢ p) added
     added_others = All-append (λ v. v ≢ p) row (filter (λ s. not (has row s)) sources) good.others (All-filter (λ s. not (has row s)) (λ v. v ≢ p) sources are.others)
 
-    pub added_candidates : AreCandidates points p (all_near points q added)
+    added_candidates : AreCandidates points p (all_near points q added)
     added_candidates = record {
       in_range = All-map (λ (x : Near). x.id < length points) (near_of points q) added (All-append (λ v. v < length points) row (filter (λ s. not (has row s)) sources) good.inside (All-filter (λ s. not (has row s)) (λ v. v < length points) sources are.inside));
       near = All-map (λ (x : Near). x ≡ near_of points q x.id) (near_of points q) added (λ k d h. refl);
@@ -63,8 +63,26 @@ module _ (points : List (List ℕ)) (p : ℕ) (row sources : List ℕ) where
       others = All-map (λ (x : Near). x.id ≢ p) (near_of points q) added added_others;
     }
 
-    pub merge_full : (prune : ℕ → List ℕ → List ℕ) (bound : ℕ) → bound < length added → prune p added ≡ merge_with prune bound p row sources
+    merge_full : (prune : ℕ → List ℕ → List ℕ) (bound : ℕ) → bound < length added → prune p added ≡ merge_with prune bound p row sources
     merge_full prune bound h = sym (ap (λ b. cond b added (prune p (without p added))) (lt-leb (length added) bound h) ∙ ap (prune p) (without_none p added added_others))
 
-  pub merge_room : (prune : ℕ → List ℕ → List ℕ) (bound : ℕ) → length added ≤ bound → added ≡ merge_with prune bound p row sources
+  merge_room : (prune : ℕ → List ℕ → List ℕ) (bound : ℕ) → length added ≤ bound → added ≡ merge_with prune bound p row sources
   merge_room prune bound h = sym (ap (λ b. cond b added (prune p (without p added))) (le-leb (length added) bound h))
+
+-- what is laid out for a target: its row, and the sources that aren't in it
+module _ (points points' : List (List ℕ)) (t : ℕ) (row sources : List ℕ) (first all : List Near) (same : points' ≡ points) (begins : first ≡ all_near points' (point points' t) row) (ends : all ≡ first ++ all_near points' (point points' t) (filter (λ s. not (has row s)) sources)) (bound : ℕ) where
+  all_laid : all ≡ all_near points (point points t) (added_to row sources)
+  all_laid = laid points' t row sources first all begins ends ∙ ap (λ (ps : List (List ℕ)). all_near ps (point ps t) (added_to row sources)) same
+
+  ids_laid : ids_of all ≡ added_to row sources
+  ids_laid = ap ids_of all_laid ∙ ids-near points (point points t) (added_to row sources)
+
+  pub laid_room : (prune : ℕ → List ℕ → List ℕ) → length all ≤ bound → ids_of all ≡ merge_with prune bound t row sources
+  laid_room prune few = let many = same_length points t row sources all all_laid in ids_laid ∙ merge_room points t row sources prune bound (omega (arith, many, few))
+
+  module _ (good : IsGoodRow (length points) bound t row) (are : AreSources (length points) t sources) where
+    pub laid_candidates : AreCandidates points t all
+    laid_candidates = subst (AreCandidates points t) (sym all_laid) (added_candidates points t row sources bound good are)
+
+    pub laid_full : (prune : ℕ → List ℕ → List ℕ) → bound < length all → prune t (ids_of all) ≡ merge_with prune bound t row sources
+    laid_full prune full = let many = same_length points t row sources all all_laid in ap (prune t) ids_laid ∙ merge_full points t row sources bound good are prune bound (omega (arith, many, full))

@@ -1,12 +1,14 @@
 -- Outside a batch and its targets no row changes: one pass over both meets all that differ.
-use Rattle.std.proofs.Common.{◌≡◌, ℕ, ◌+◌, ◌<◌, ◌≤◌, Bool, true, false, cond, List, [], ◌∷◌, ◌++◌, length, get_or, eqb, refl, sym, ap, ◌∙◌, subst, inl, inr, arith}
+use Rattle.std.proofs.Common.{◌≡◌, ℕ, ◌+◌, ◌<◌, ◌≤◌, Bool, true, false, cond, not, List, [], ◌∷◌, ◌++◌, length, get_or, eqb, refl, sym, ap, ◌∙◌, subst, inl, inr, arith}
+use Rattle.std.specs.Prelude.{nat_eq, slice_index}
+use lib.Pointwise.{pointwise}
 use Rattle.std.specs.List.{range_with_len}
 use Rattle.std.specs.Ordering.{nat_cmp}
 use Rattle.std.proofs.lemmas.Bool.{cases_eq, cases_lt, eq-eqb, ne_eqb}
 use mir.Val.{bool_byte}
 use Rattle.std.proofs.lemmas.List.Elements.{Contains-get_or}
 use Rattle.ann_defs.specs.Ordered.{Has, Rises, ordered}
-use Rattle.ann_defs.specs.Graph.{has}
+use Rattle.ann_defs.specs.Graph.{has, IsGoodRow}
 use Rattle.ann_defs.specs.BatchInsert.{row_then}
 use Rattle.ann_defs.proofs.Order.{has_from_Contains}
 use Rattle.batch_insert.specs.declared.pair.Pair.{Pair}
@@ -14,7 +16,10 @@ use Rattle.batch_insert.specs.Proposing.{pair_cmp, targets_of}
 use Rattle.batch_insert.specs.Proposed.{proposed}
 use Rattle.batch_insert.specs.Batch.{IsBatch, AreTargets, laid_over}
 use Rattle.batch_insert.specs.Changes.{differing}
-use Rattle.batch_insert.specs.Wanted.{merge_at}
+use Rattle.batch_insert.specs.Sources.{AreSources}
+use Rattle.batch_insert.specs.Wanted.{merge_at, merged_blocks}
+use Rattle.graph_rows.specs.Blocks.{row_in}
+use Rattle.batch_insert.proofs.Padding.{block_fits, block_row}
 use Rattle.batch_insert.proofs.Grouping.{targets_rise}
 use Rattle.batch_insert.proofs.Ascending.{rises}
 use Rattle.batch_insert.proofs.Sources.{in_batch}
@@ -32,6 +37,28 @@ pub record IsMerged (n : ℕ) (old new : ℕ → List ℕ) (ids targets : List �
 pub merged_none : (n : ℕ) (old new : ℕ → List ℕ) (ids targets : List ℕ) → IsMerged n old new ids targets 0 0 [] 0
 merged_none n old new ids targets = record { points = up_to_none ids; proposed_to = up_to_none targets; within = omega arith; found_all = refl }
 
+-- which list the next id comes from
+next_is_target : (points targets i j point target n : ℕ) → i + j < points + targets → j ≤ targets → (i < points → point < n) → (targets ≤ j → target ≡ 4294967295) → n ≤ 4194304 → target ≤ point → j < targets
+next_is_target points targets i j point target n left within here behind small le =
+    elim (cases_lt j targets) as (λ _. j < targets) [
+      | inl h ↦ h
+      | inr h ↦
+          let far = behind h in
+          let near : point < n = here (omega (arith, left, within, h)) in
+          absurd (omega (arith, far, near, small, le))
+    ]
+
+next_is_point : (points i point target : ℕ) → (points ≤ i → point ≡ 4294967295) → target ≤ 4294967295 → point < target → i < points
+next_is_point points i point target behind small less =
+    elim (cases_lt i points) as (λ _. i < points) [ inl h ↦ h | inr h ↦ let far = behind h in absurd (omega (arith, far, small, less)) ]
+
+-- what one more id adds
+added : (old new : ℕ → List ℕ) (found found' : List (ℕ × List ℕ)) (id u : ℕ) (row was : List ℕ) → found' ≡ found ++ cond (not (pointwise nat_eq row was)) ((id, row) ∷ []) [] → id ≡ u → row ≡ new u → was ≡ old id → found' ≡ found ++ cond (differs old new u) ((u, new u) ∷ []) []
+added old new found found' id u row was e same is before = e ∙ (λ k. found ++ cond (not (pointwise nat_eq (is k) ((before ∙ ap old same) k))) ((same k, is k) ∷ []) [])
+
+moved : (n : ℕ) (old new : ℕ → List ℕ) (ids targets : List ℕ) → {i i' j from : ℕ} {found found' : List (ℕ × List ℕ)} → i ≡ i' → found ≡ found' → IsMerged n old new ids targets i j found from → IsMerged n old new ids targets i' j found' from
+moved n old new ids targets {i} {i'} {j} {from} {found} {found'} e f m = subst (λ k. IsMerged n old new ids targets k j found' from) e (subst (λ es. IsMerged n old new ids targets i j es from) f m)
+
 module _ (n bound : ℕ) (held : ℕ → Bool) (old : ℕ → List ℕ) (batch : ℕ → Bool) (fresh : ℕ → List ℕ) (ids : List ℕ) (fits : IsBatch n bound held old batch fresh ids) (merged : ℕ → List ℕ → List ℕ → List ℕ) (pairs : List Pair) (right : pairs ≡ ordered pair_cmp (proposed fresh ids)) where
   abbrev targets : List ℕ
   targets = targets_of pairs
@@ -42,35 +69,49 @@ module _ (n bound : ℕ) (held : ℕ → Bool) (old : ℕ → List ℕ) (batch :
   abbrev new : ℕ → List ℕ
   new = row_then n old fresh batch merged
 
-  pub are_targets : AreTargets n bound held laid pairs
+  are_targets : AreTargets n bound held laid pairs
   are_targets = subst (AreTargets n bound held laid) (sym right) (targets_right n bound held old batch fresh ids fits merged)
 
   -- the rows of a target and of another point of the batch
-  pub target_has : (j : ℕ) → j < length targets → Has targets (get_or targets j 0)
+  target_has : (j : ℕ) → j < length targets → Has targets (get_or targets j 0)
   target_has j at = has_from_Contains targets (get_or targets j 0) (Contains-get_or targets j 0 at)
 
-  pub target_held_at : (j : ℕ) → j < length targets → held (get_or targets j 0) ≡ true
+  target_held_at : (j : ℕ) → j < length targets → held (get_or targets j 0) ≡ true
   target_held_at j at = are_targets.held_all (get_or targets j 0) (target_has j at)
 
-  pub target_below : (j : ℕ) → j < length targets → get_or targets j 0 < n
+  target_below : (j : ℕ) → j < length targets → get_or targets j 0 < n
   target_below j at = are_targets.inside (get_or targets j 0) (target_has j at)
 
-  pub target_row : (j : ℕ) → j < length targets → merge_at merged laid pairs (get_or targets j 0) ≡ new (get_or targets j 0)
+  target_row : (j : ℕ) → j < length targets → merge_at merged laid pairs (get_or targets j 0) ≡ new (get_or targets j 0)
   target_row j at =
       let t = get_or targets j 0 in
       ap (λ (ps : List Pair). merge_at merged laid ps t) right
       ∙ last_of_target n bound held old batch fresh ids fits merged t (subst (λ (ps : List Pair). Has (targets_of ps) t) right (target_has j at))
 
-  pub point_in : (i : ℕ) → i < length ids → batch (get_or ids i 0) ≡ true
+  -- the block of a target holds its row
+  module _ (good : (t : ℕ) (row sources : List ℕ) → t < n → IsGoodRow n bound t row → AreSources n t sources → IsGoodRow n bound t (merged t row sources)) (j : ℕ) (at : j < length targets) (blocks : List (List ℕ)) (all : blocks ≡ merged_blocks merged bound laid pairs) (block : List ℕ) (got : block ≡ get_or blocks j []) where
+    targets_short : (t : ℕ) → Has targets t → length (merge_at merged laid pairs t) ≤ bound
+    targets_short t h = (good t _ _ (are_targets.inside t h) (are_targets.good t h) (are_targets.sources t h)).short
+
+    is : block ≡ get_or (merged_blocks merged bound laid pairs) j []
+    is = got ∙ ap (λ (bs : List (List ℕ)). get_or bs j []) all
+
+    pub target_block_fits : slice_index block 0 + 1 ≤ length block
+    target_block_fits = block_fits (merge_at merged laid pairs) bound targets targets_short j at block is
+
+    pub target_block_row : row_in block ≡ new (get_or targets j 0)
+    target_block_row = block_row (merge_at merged laid pairs) bound targets targets_short j at block is ∙ target_row j at
+
+  point_in : (i : ℕ) → i < length ids → batch (get_or ids i 0) ≡ true
   point_in i at = in_batch n bound held old batch fresh ids fits merged (get_or ids i 0) (has_from_Contains ids (get_or ids i 0) (Contains-get_or ids i 0 at))
 
-  pub point_below : (i : ℕ) → i < length ids → get_or ids i 0 < n
+  point_below : (i : ℕ) → i < length ids → get_or ids i 0 < n
   point_below i at = fits.below (get_or ids i 0) (fits.batch_held (get_or ids i 0) (point_in i at))
 
   other : (u : ℕ) → has targets u ≡ false → laid u ≡ new u
   other u h = last_of_other n bound held old batch fresh ids fits merged u (subst (λ (ps : List Pair). has (targets_of ps) u ≡ false) right h)
 
-  pub point_row : (i : ℕ) → i < length ids → has targets (get_or ids i 0) ≡ false → fresh (get_or ids i 0) ≡ new (get_or ids i 0)
+  point_row : (i : ℕ) → i < length ids → has targets (get_or ids i 0) ≡ false → fresh (get_or ids i 0) ≡ new (get_or ids i 0)
   point_row i at h = let p = get_or ids i 0 in
       sym (ap (λ t. cond t (fresh p) (old p)) (point_in i at)) ∙ other p h
 
@@ -105,7 +146,7 @@ module _ (n bound : ℕ) (held : ℕ → Bool) (old : ℕ → List ℕ) (batch :
     merged_all e f = sym (same_between n (omega arith) m.within (λ h. absurd (omega arith)) (λ h. absurd (omega arith)))
 
     -- past a target, and past the same id of the batch
-    pub merged_target : (point : ℕ) → (i < length ids → point ≡ get_or ids i 0) → (length ids ≤ i → point ≡ 4294967295) → n ≤ 4194304 → j < length targets → get_or targets j 0 ≤ point
+    merged_target : (point : ℕ) → (i < length ids → point ≡ get_or ids i 0) → (length ids ≤ i → point ≡ 4294967295) → n ≤ 4194304 → j < length targets → get_or targets j 0 ≤ point
         → IsMerged n old new ids targets (i + bool_byte (eqb point (get_or targets j 0))) (j + 1) (found ++ cond (differs old new (get_or targets j 0)) ((get_or targets j 0, new (get_or targets j 0)) ∷ []) []) (get_or targets j 0 + 1)
     merged_target point here behind small at le =
         let t = get_or targets j 0 in
@@ -134,12 +175,12 @@ module _ (n bound : ℕ) (held : ℕ → Bool) (old : ℕ → List ℕ) (batch :
 
     -- past an id of the batch to which nothing is proposed
     module _ (at : i < length ids) (target : ℕ) (here : j < length targets → target ≡ get_or targets j 0) (less : get_or ids i 0 < target) where
-      pub point_alone : has targets (get_or ids i 0) ≡ false
+      point_alone : has targets (get_or ids i 0) ≡ false
       point_alone =
           let p = get_or ids i 0 in
           none_between targets (targets_rise pairs) j from m.proposed_to (p + 1) (λ h. let e = here h in omega (arith, e, less)) p (m.points.after i (omega arith) at) (omega arith)
 
-      pub merged_point : IsMerged n old new ids targets (i + 1) j (found ++ cond (differs old new (get_or ids i 0)) ((get_or ids i 0, new (get_or ids i 0)) ∷ []) []) (get_or ids i 0 + 1)
+      merged_point : IsMerged n old new ids targets (i + 1) j (found ++ cond (differs old new (get_or ids i 0)) ((get_or ids i 0, new (get_or ids i 0)) ∷ []) []) (get_or ids i 0 + 1)
       merged_point =
           let p = get_or ids i 0 in
           let low = m.points.after i (omega arith) at in
@@ -151,17 +192,31 @@ module _ (n bound : ℕ) (held : ℕ → Bool) (old : ℕ → List ℕ) (batch :
             found_all = one_more p (omega (arith, below)) low (λ _. omega arith) (λ h. let e = here h in omega (arith, e, less));
           }
 
--- which list the next id comes from
-pub next_is_target : (points targets i j point target n : ℕ) → i + j < points + targets → j ≤ targets → (i < points → point < n) → (targets ≤ j → target ≡ 4294967295) → n ≤ 4194304 → target ≤ point → j < targets
-next_is_target points targets i j point target n left within here behind small le =
-    elim (cases_lt j targets) as (λ _. j < targets) [
-      | inl h ↦ h
-      | inr h ↦
-          let far = behind h in
-          let near : point < n = here (omega (arith, left, within, h)) in
-          absurd (omega (arith, far, near, small, le))
-    ]
+    -- one turn of the pass: the next of the ids, or the end of them, is `point`, and the next of the targets `target`
+    module _ (point target : ℕ) (here : i < length ids → point ≡ get_or ids i 0) (behind : length ids ≤ i → point ≡ 4294967295) (there : j < length targets → target ≡ get_or targets j 0) (past : length targets ≤ j → target ≡ 4294967295) (row was : List ℕ) (found' : List (ℕ × List ℕ)) where
+      pub after_target : n ≤ 4194304 → target ≤ point → j < length targets → row ≡ new (get_or targets j 0) → was ≡ old target → found' ≡ found ++ cond (not (pointwise nat_eq row was)) ((target, row) ∷ []) []
+          → (from' : ℕ) × IsMerged n old new ids targets (i + bool_byte (nat_eq point target)) (j + 1) found' from'
+      after_target small le at is before e =
+          let t = get_or targets j 0 in
+          let same : target ≡ t = there at in
+          let next = merged_target point here behind small at (subst (λ v. v ≤ point) same le) in
+          let step : i + bool_byte (nat_eq point t) ≡ i + bool_byte (nat_eq point target) = ap (λ v. i + bool_byte (nat_eq point v)) (sym same) in
+          (t + 1, moved n old new ids targets step (sym (added old new found found' target t row was e same is before)) next)
 
-pub next_is_point : (points i point target : ℕ) → (points ≤ i → point ≡ 4294967295) → target ≤ 4294967295 → point < target → i < points
-next_is_point points i point target behind small less =
-    elim (cases_lt i points) as (λ _. i < points) [ inl h ↦ h | inr h ↦ let far = behind h in absurd (omega (arith, far, small, less)) ]
+      pub after_point : target ≤ 4294967295 → point < target → row ≡ fresh (get_or ids i 0) → was ≡ old point → found' ≡ found ++ cond (not (pointwise nat_eq row was)) ((point, row) ∷ []) []
+          → (from' : ℕ) × IsMerged n old new ids targets (i + 1) j found' from'
+      after_point small less is before e =
+          let at = next_is_point (length ids) i point target behind small less in
+          let p = get_or ids i 0 in
+          let same : point ≡ p = here at in
+          let first : p < target = subst (λ v. v < target) same less in
+          let whole : row ≡ new p = is ∙ point_row i at (point_alone at target there first) in
+          (p + 1, moved n old new ids targets refl (sym (added old new found found' point p row was e same whole before)) (merged_point at target there first))
+
+    -- what stands at a place among the targets, where the next of them comes before the next of the ids
+    module _ (point target : ℕ) (here : i < length ids → point ≡ get_or ids i 0) (past : length targets ≤ j → target ≡ 4294967295) where
+      pub target_next : i + j < length ids + length targets → n ≤ 4194304 → target ≤ point → j < length targets
+      target_next left small le = next_is_target (length ids) (length targets) i j point target n left m.proposed_to.within (λ h. subst (λ v. v < n) (sym (here h)) (point_below i h)) past small le
+
+      pub target_next_held : (j < length targets → target ≡ get_or targets j 0) → i + j < length ids + length targets → n ≤ 4194304 → target ≤ point → held target ≡ true
+      target_next_held there left small le = let at = target_next left small le in ap held (there at) ∙ target_held_at j at

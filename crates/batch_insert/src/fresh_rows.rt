@@ -7,8 +7,7 @@ ghost use Rattle.ann_defs.specs.Ordered.{Ascends};
 ghost use Rattle.batch_insert.specs.Padded.{row_by_id};
 
 use crate::block::row_of;
-use crate::ids::place_of;
-use graph_rows::Rows;
+use graph_rows::{Rows, place_of};
 use steal_pool::Blocks;
 
 /// The rows of ids that ascend, in the blocks of a round with a task for each of them, in their order.

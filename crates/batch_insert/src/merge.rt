@@ -18,9 +18,9 @@ use robust_prune::Pruning;
 /// Where row and sources together are at most the prune's greatest length, it is the row as it stands, followed by the
 /// sources that aren't in it, in their order. Else all of them are pruned for the target (DiskANN, Algorithm 3, line
 /// 8). `room` holds the candidates with their squared distances meanwhile; what it holds afterwards is not said. It
-/// takes no memory and refuses nothing, and where row and sources are short enough, it takes no distance.
+/// takes no memory and can't fail, and where row and sources are short enough, it takes no distance.
 ///
-/// The answer is the length of the row, which stands at the front of `out`. Behind the row `out` stays as it was.
+/// Returns the length of the row, which stands at the front of `out`. Behind the row `out` stays as it was.
 pub fn merged_row<P: Pruning>(
     pruning: &P,
     target: u32,
@@ -53,7 +53,7 @@ pub fn merged_row<P: Pruning>(
     }
 }
 
-// Writes the row and the sources that aren't in it to the front of `out`. The answer is how many ids that is.
+// Writes the row and the sources that aren't in it to the front of `out`. Returns how many ids that is.
 fn join_row(row: &[u32], sources: &[Pair], out: &mut [u32]) -> usize
     requires { length row.now + length sources.now ≤ length out.old }
     ensures list { take result out.new ≡ row.now ++ filter (λ s. not (has row.now s)) (sources_in sources.now) }
@@ -64,7 +64,7 @@ fn join_row(row: &[u32], sources: &[Pair], out: &mut [u32]) -> usize
     join_sources(row, sources, out, from)
 }
 
-// Copies the row to the front of `out`. The answer is its length.
+// Copies the row to the front of `out`. Returns its length.
 fn copy_row(row: &[u32], out: &mut [u32]) -> usize
     requires { length row.now ≤ length out.old }
     ensures list { take result out.new ≡ row.now }
@@ -79,7 +79,7 @@ fn copy_row(row: &[u32], out: &mut [u32]) -> usize
     len
 }
 
-// Writes, after the first `from`, the sources that aren't in the row. The answer is how many ids there are then.
+// Writes, after the first `from`, the sources that aren't in the row. Returns how many ids there are then.
 fn join_sources(row: &[u32], sources: &[Pair], out: &mut [u32], from: usize) -> usize
     requires { from + length sources.now ≤ length out.old }
     ensures list { take result out.new ≡ take from out.old ++ filter (λ s. not (has row.now s)) (sources_in sources.now) }
@@ -98,7 +98,7 @@ fn join_sources(row: &[u32], sources: &[Pair], out: &mut [u32], from: usize) -> 
     len
 }
 
-// Lays out the row at the front of the room. The answer is its length.
+// Lays out the row at the front of the room. Returns its length.
 fn lay_row(points: &Points, target: u32, row: &[u32], room: &mut [Near]) -> usize
     requires target { target < length points.now.vectors }
     requires row { All (λ v. v < length points.now.vectors) row.now }
@@ -121,7 +121,7 @@ fn has_id(row: &[u32], id: u32) -> bool
     row.iter().any(|x| *x == id)
 }
 
-// Lays out, after the first `from`, the sources that aren't in the row. The answer is how many there are then.
+// Lays out, after the first `from`, the sources that aren't in the row. Returns how many there are then.
 fn lay_sources(
     points: &Points,
     target: u32,

@@ -28,7 +28,7 @@ pub trait Merging: Sync {
     fn degree(&self) -> u32
         ensures { result ≡ most self.now };
 
-    /// Writes the merged row of the target to the front of `out`, and answers how many ids it has.
+    /// Writes the merged row of the target to the front of `out`, and returns how many ids it has.
     fn merge(
         &self,
         scratch: &mut Self::Scratch,

@@ -40,7 +40,7 @@ impl Model for Proposals {
 impl Proposals {
     /// No pairs, open to additions, with room for `k` of them: its spare is `k`.
     ///
-    /// All memory is taken here, 12 bytes for each addition. A refusal leaves nothing.
+    /// All memory is taken here, 12 bytes for each addition. A failure leaves nothing.
     pub fn with_room(alloc: Global, k: u64) -> Result<Proposals, NoMemory>
         requires { k ≤ MAX_PAIRS }
         ensures { IfOk result (λ p. p ≡ record { pairs = []; grouped = false; room = k }) }
@@ -63,7 +63,7 @@ impl Proposals {
         requires room { length self.old.pairs < self.old.room }
         ensures { self.new ≡ record self.old { pairs = self.old.pairs ++ record { target = target; source = source } ∷ [] } }
     {
-        push_pair(&mut self.pairs, Pair { target, source });
+        push_within(&mut self.pairs, Pair { target, source });
     }
 
     /// Closes it to additions, and puts the pairs in order by target and source, each once.
@@ -122,25 +122,13 @@ impl Proposals {
     }
 }
 
-// Adds a target where there is room.
-fn push_target(targets: &mut Vec<u32>, target: u32)
-    requires { vec_len targets.old < vec_capacity targets.old }
-    ensures items { targets.new.items ≡ targets.old.items ++ target ∷ [] }
-    ensures capacity { vec_capacity targets.old ≤ vec_capacity targets.new }
+// Adds an item where there is room.
+fn push_within<T: Copy>(items: &mut Vec<T>, item: T)
+    requires { vec_len items.old < vec_capacity items.old }
+    ensures items { items.new.items ≡ items.old.items ++ item ∷ [] }
+    ensures capacity { vec_capacity items.old ≤ vec_capacity items.new }
 {
-    match targets.push(target) {
-        Ok(()) => {}
-        Err(_) => {}
-    }
-}
-
-// Adds a pair where there is room.
-fn push_pair(pairs: &mut Vec<Pair>, pair: Pair)
-    requires { vec_len pairs.old < vec_capacity pairs.old }
-    ensures items { pairs.new.items ≡ pairs.old.items ++ pair ∷ [] }
-    ensures capacity { vec_capacity pairs.old ≤ vec_capacity pairs.new }
-{
-    match pairs.push(pair) {
+    match items.push(item) {
         Ok(()) => {}
         Err(_) => {}
     }
@@ -157,7 +145,7 @@ fn list_targets(pairs: &[Pair], targets: &mut Vec<u32>)
     targets.clear();
     for i in 0..pairs.len() {
         if i == 0 || pairs[i - 1].target != pairs[i].target {
-            push_target(targets, pairs[i].target);
+            push_within(targets, pairs[i].target);
         }
     }
 }

@@ -45,11 +45,11 @@ fn merge_all<R: Threads + Sync, P: Rounds, G: Gate + Sync, V: Rows + Sync, M: Me
 }
 
 /// The rows that a batch changes, where its new rows are given: each target of their reverse edges gets its merged row,
-/// in one round with a task for each target, and what differs from the rows before is the answer.
+/// in one round with a task for each target. Returns what differs from the rows before.
 ///
 /// `old` are the rows before the batch, of some of the points: a flat graph, or a layer of HNSW. `fresh` holds the
-/// batch alone, which is `ids`, ascending. Neither changes. `gate.task` is called as by the pool's round. A refusal is
-/// want of memory; it leaves nothing, and the posts still serve.
+/// batch alone, which is `ids`, ascending. Neither changes. `gate.task` is called as by the pool's round. Fails only
+/// with `NoMemory`, which leaves nothing, and the posts still serve.
 pub fn changed_rows<
     R: Threads + Sync,
     P: Rounds,

@@ -21,8 +21,8 @@ loop-i-preserved c =
             | then-i-eq0-via-else-i-eq0+then-pairs-i w' ↦ targets_new pairs sorted i d within (omega arith) w'.if-pairs-i.true
           ] in
           rw w.targets-is (record {
-            items = w.push_target.ensures.items ∙ ap (λ (ts : List ℕ). ts ++ (get_or pairs i d).target ∷ []) c.loop-i.invariant.items ∙ sym next;
-            count = rw w.push_target.ensures.items (rw length_push (omega arith));
+            items = w.push_within.ensures.items ∙ ap (λ (ts : List ℕ). ts ++ (get_or pairs i d).target ∷ []) c.loop-i.invariant.items ∙ sym next;
+            count = rw w.push_within.ensures.items (rw length_push (omega arith));
             capacity = omega arith;
           })
       | else-i-eq0+else-pairs-i w ↦

@@ -1,8 +1,8 @@
-use Rattle.std.proofs.Common.{◌≡◌, ◌∙◌, ◌+◌, ◌*◌, ◌≤◌, ap, sym, subst, ℕ, List, length, arith, true}
+use Rattle.std.proofs.Common.{◌≡◌, ◌∙◌, ◌+◌, ◌*◌, ◌≤◌, ap, sym, subst, ℕ, Bool, List, length, arith, true}
 use Rattle.std.proofs.Math.Nat.{mul-le-mul_right}
 use Rattle.ann_defs.specs.Ordered.{ordered}
 use Rattle.batch_insert.specs.declared.pair.Pair.{Pair}
-use Rattle.batch_insert.specs.Batch.{AreTargets, laid_over}
+use Rattle.batch_insert.specs.Batch.{IsBatch, AreTargets, laid_over}
 use Rattle.batch_insert.specs.Proposing.{Proposed, pair_cmp, targets_of}
 use Rattle.batch_insert.specs.Proposed.{proposed}
 use Rattle.batch_insert.proofs.MergeFacts.{targets_right, targets_few, ids_few}
@@ -18,9 +18,17 @@ one_fits n size limit some words = let one : 1 * size ≤ n * size = grind (arit
 less_words : (n bound limit : ℕ) → n * (bound + 1) ≤ limit → n * bound ≤ limit
 less_words n bound limit h = grind arith
 
--- the pairs, once they are grouped
-grouped_is : (before after : Proposed) (pairs : List Pair) → after ≡ record before { pairs = ordered pair_cmp before.pairs; grouped = true } → before.pairs ≡ pairs → after.pairs ≡ ordered pair_cmp pairs
-grouped_is before after pairs e f = ap (λ (p : Proposed). p.pairs) e ∙ ap (ordered pair_cmp) f
+-- the pairs of a batch, once they are grouped
+module _ (n bound : ℕ) (held : ℕ → Bool) (old : ℕ → List ℕ) (batch : ℕ → Bool) (fresh : ℕ → List ℕ) (ids : List ℕ) (fits : IsBatch n bound held old batch fresh ids) (merged : ℕ → List ℕ → List ℕ → List ℕ)
+    (before after : Proposed) (grouped : after ≡ record before { pairs = ordered pair_cmp before.pairs; grouped = true }) (all : before.pairs ≡ proposed fresh ids) where
+  right : after.pairs ≡ ordered pair_cmp (proposed fresh ids)
+  right = ap (λ (p : Proposed). p.pairs) grouped ∙ ap (ordered pair_cmp) all
+
+  targets_are : AreTargets n bound held (laid_over old batch fresh) after.pairs
+  targets_are = subst (AreTargets n bound held (laid_over old batch fresh)) (sym right) (targets_right n bound held old batch fresh ids fits merged)
+
+  few_targets : length (targets_of after.pairs) ≤ n
+  few_targets = subst (λ (ps : List Pair). length (targets_of ps) ≤ n) (sym right) (targets_few n bound held old batch fresh ids fits merged)
 
 pub propose-requires-after_bounds : goal.propose-requires-after_bounds
 propose-requires-after_bounds g c =
@@ -36,15 +44,9 @@ invariant_of-work g c =
     let m = c.args.merging.now in
     let n = g.M.Merging.count m in
     let bound = g.M.Merging.most m in
-    let held = g.O.Rows.held c.args.old.now in
-    let old = g.O.Rows.row_of c.args.old.now in
-    let batch = g.F.Rows.held c.args.fresh.now in
-    let fresh = g.F.Rows.row_of c.args.fresh.now in
-    let ids = c.args.ids.now in
-    let right = grouped_is c.in_ok-proposals.proposals c.group.new.self (proposed fresh ids) c.group.ensures c.in_ok-proposals.ensures.0 in
     record {
       grouped = ap (λ (p : Proposed). p.grouped) c.group.ensures;
-      targets = subst (AreTargets n bound held (laid_over old batch fresh)) (sym right) (targets_right n bound held old batch fresh ids c.requires.batch (g.M.Merging.merged m));
+      targets = targets_are n bound (g.O.Rows.held c.args.old.now) (g.O.Rows.row_of c.args.old.now) (g.F.Rows.held c.args.fresh.now) (g.F.Rows.row_of c.args.fresh.now) c.args.ids.now c.requires.batch (g.M.Merging.merged m) c.in_ok-proposals.proposals c.group.new.self c.group.ensures c.in_ok-proposals.ensures.0;
       narrow = one_fits n (bound + 1) 134217728 c.requires.some c.requires.words;
     }
 
@@ -53,11 +55,5 @@ merge_all-requires-clause-words g c κs within =
     let m = c.args.merging.now in
     let n = g.M.Merging.count m in
     let bound = g.M.Merging.most m in
-    let held = g.O.Rows.held c.args.old.now in
-    let old = g.O.Rows.row_of c.args.old.now in
-    let batch = g.F.Rows.held c.args.fresh.now in
-    let fresh = g.F.Rows.row_of c.args.fresh.now in
-    let ids = c.args.ids.now in
-    let right = grouped_is c.in_ok-proposals.proposals c.group.new.self (proposed fresh ids) c.group.ensures c.in_ok-proposals.ensures.0 in
-    let few : length (targets_of c.group.new.self.pairs) ≤ n = subst (λ (ps : List Pair). length (targets_of ps) ≤ n) (sym right) (targets_few n bound held old batch fresh ids c.requires.batch (g.M.Merging.merged m)) in
+    let few = few_targets n bound (g.O.Rows.held c.args.old.now) (g.O.Rows.row_of c.args.old.now) (g.F.Rows.held c.args.fresh.now) (g.F.Rows.row_of c.args.fresh.now) c.args.ids.now c.requires.batch (g.M.Merging.merged m) c.in_ok-proposals.proposals c.group.new.self c.group.ensures c.in_ok-proposals.ensures.0 in
     words_fit (length (targets_of c.group.new.self.pairs)) n (bound + 1) 134217728 few c.requires.words
