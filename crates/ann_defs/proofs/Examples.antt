@@ -37,7 +37,7 @@ merge_prunes = refl
 merge_adds : merge_of line 1 1 3 0 (3 ∷ 1 ∷ []) (1 ∷ 2 ∷ []) ≡ 3 ∷ 1 ∷ 2 ∷ []
 merge_adds = refl
 
--- a search along a chain of rows, of two as near by id
+-- a search along a chain of rows; ties go to the smaller id
 abbrev chain : List (List ℕ)
 chain = (1 ∷ []) ∷ (0 ∷ 2 ∷ []) ∷ (1 ∷ 3 ∷ []) ∷ (2 ∷ []) ∷ []
 

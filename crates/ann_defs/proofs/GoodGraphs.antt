@@ -13,7 +13,7 @@ use Rattle.ann_defs.specs.Nearness.{ids_of}
 use Rattle.ann_defs.specs.Graph.{has, without, row_in, IsGraph, IsGoodRow, AreGoodRows}
 use Rattle.ann_defs.specs.GreedySearch.{search_of, start_of, visited_of}
 use Rattle.ann_defs.specs.RobustPrune.{pruned_row}
-use Rattle.ann_defs.specs.BatchInsert.{Build, merge_with, laid_row, sources_to, row_then, new_row_of, row_after, last_row_of, batch_step, at_batch, graph_after, batch_at, total_of}
+use Rattle.ann_defs.specs.BatchInsert.{Build, merge_with, laid_row, sources_to, row_then, new_row_of, last_row_of, batch_step, at_batch, graph_after, batch_at, total_of}
 use Rattle.ann_defs.proofs.Order.{has-map, All_has}
 use Rattle.ann_defs.proofs.Members.{all_from_has, has-append, filter_has, has_true, distinct_once, Once-filter, and_both, range_has, range_once}
 use Rattle.ann_defs.proofs.SearchStates.{IsSound, sound_start, sound_walk}
@@ -104,10 +104,7 @@ module _ (b : Build) where
           ])
 
       module _ (batch : List ℕ) where
-        -- the row of each point once the batch has its new rows, and after the batch
-        pub row_after_good : (u : ℕ) → u < n → IsGoodRow n b.degree u (row_after b rows batch u)
-        row_after_good = laid_good n b.degree (row_in rows) (new_row_of b rows) (has batch) prune (λ u at _. new_row_good u at) good.good
-
+        -- the row of each point after the batch
         pub last_row_good : (t : ℕ) → t < n → IsGoodRow n b.degree t (last_row_of b rows batch t)
         last_row_good = row_then_good n b.degree (row_in rows) (new_row_of b rows) (has batch) prune (λ u at _. new_row_good u at) good.good
             (λ t set inside. prune_without_good b.points t set b.num b.den b.degree n inside)

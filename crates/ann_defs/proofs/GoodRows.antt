@@ -99,9 +99,6 @@ module _ (points : List (List ℕ)) (p : ℕ) (set : List ℕ) (num den r : ℕ)
     short = let short = kept_short (stays points num den) r listed in rw (length-map (kept (stays points num den) r listed) (λ (y : Near). y.id)) short;
   }
 
-  without_not : (u : ℕ) → Has (without p set) u → u ≢ p
-  without_not u h = eqb-false u p (not-true (u == p) (filter_has (λ x. not (x == p)) set u h).1)
-
 -- a prune without p
 pub prune_without_good : (points : List (List ℕ)) (p : ℕ) (set : List ℕ) (num den r n : ℕ) → ((u : ℕ) → Has set u → u < n) → IsGoodRow n r p (pruned_row points p (without p set) num den r)
 prune_without_good points p set num den r n inside =

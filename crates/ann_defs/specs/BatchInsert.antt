@@ -86,14 +86,6 @@ module _ (b : Build) where
   abbrev pub merged_row_of : ℕ → List ℕ → List ℕ → List ℕ
   merged_row_of t row sources = merge_of b.points b.num b.den b.degree t row sources
 
-  -- the row of u once the batch has its new rows, all of them computed in the graph before
-  abbrev pub row_after : List (List ℕ) → List ℕ → ℕ → List ℕ
-  row_after graph batch u = laid_row (length b.points) (row_in graph) (new_row_of graph) (has batch) merged_row_of u
-
-  -- those of the batch, ascending, whose new row holds t
-  abbrev pub sources_of : List (List ℕ) → List ℕ → ℕ → List ℕ
-  sources_of graph batch t = sources_to (length b.points) (row_in graph) (new_row_of graph) (has batch) merged_row_of t
-
   -- the row of t after the batch
   abbrev pub last_row_of : List (List ℕ) → List ℕ → ℕ → List ℕ
   last_row_of graph batch t = row_then (length b.points) (row_in graph) (new_row_of graph) (has batch) merged_row_of t

@@ -6,7 +6,7 @@ use Rattle.ann_defs.specs.declared.near.Near.{Near}
 use Rattle.ann_defs.specs.Distance.{dist_of, point}
 use Rattle.ann_defs.specs.Ordered.{ordered}
 
--- nearer first, and of two as near the smaller id
+-- nearer first; ties go to the smaller id
 abbrev pub near_cmp : Near → Near → Ordering
 near_cmp a b = ordering_then (nat_cmp a.dist b.dist) (nat_cmp a.id b.id)
 

@@ -2,7 +2,7 @@
 
 /// An id with the squared distance of its point to what is looked for.
 ///
-/// Ordered by distance, and of two as near by id.
+/// Ordered by distance; ties go to the smaller id.
 #[derive(Clone, Copy, Debug, PartialEq, Eq, PartialOrd, Ord)]
 pub struct Near {
     /// The squared Euclidean distance.

@@ -1,6 +1,6 @@
 -- Calls one after another: what each left besides the bytes is what they left together.
 use Rattle.std.proofs.Common.{◌≡◌, ◌⊎◌, inl, inr, ℕ, ◌≤◌, List, refl, ◌∙◌, ap, subst, arith, Option, Some, None}
-use Rattle.ann_shelf.specs.Faults.{Rose}
+use Rattle.ann_shelf.specs.Faults.{Rose, NoneFell}
 use Rattle.ann_shelf.specs.Files.{Files, with_file, without_file}
 use Rattle.ann_shelf.specs.Shown.{Shown, OthersStay, OnlyReads, OnlyWrites}
 use Rattle.ann_shelf.proofs.Names.{remove_insert_same, remove_twice}
@@ -72,12 +72,21 @@ only_writes_same s name never = record {
   cause = λ f. absurd (never f);
 }
 
-pub only_writes_as : (a b : Shown) (name : List ℕ) {P Q : Type 0} → OnlyWrites a b name P → (Q → P) → OnlyWrites a b name Q
-only_writes_as a b name first same = record {
-  others = first.others;
-  reads = first.reads;
-  writes = first.writes;
-  cause = λ q. first.cause (same q);
+-- a call that left both counts, and one that counted a failed write
+pub only_writes_quiet : {a b : Shown} {name : List ℕ} {failed : Type 0} → OthersStay a.begun b.begun name → a.read_faults ≡ b.read_faults → a.write_faults ≡ b.write_faults → (failed → ⊥) → OnlyWrites a b name failed
+only_writes_quiet {a} {b} {name} others reads writes never = record {
+  others = others;
+  reads = λ other. subst (λ (f : List ℕ → ℕ). a.read_faults other ≤ f other) reads (omega arith);
+  writes = λ other. subst (λ (f : List ℕ → ℕ). a.write_faults other ≤ f other) writes (omega arith);
+  cause = λ f. absurd (never f);
+}
+
+pub only_writes_counted : {a b : Shown} {name : List ℕ} {failed : Type 0} → OthersStay a.begun b.begun name → a.read_faults ≡ b.read_faults → NoneFell a.write_faults b.write_faults → Rose (a.write_faults name) (b.write_faults name) → OnlyWrites a b name failed
+only_writes_counted {a} {b} {name} others reads grew rose = record {
+  others = others;
+  reads = λ other. subst (λ (f : List ℕ → ℕ). a.read_faults other ≤ f other) reads (omega arith);
+  writes = grew;
+  cause = λ _. rose;
 }
 
 pub only_writes_then : (a b c : Shown) (name : List ℕ) {P Q R : Type 0} → OnlyWrites a b name P → OnlyWrites b c name Q → (R → P ⊎ Q) → OnlyWrites a c name R
@@ -89,22 +98,6 @@ only_writes_then a b c name first next told = record {
     | inl p ↦ rose_later _ _ _ (first.cause p) (next.writes name)
     | inr q ↦ rose_before _ _ _ (first.writes name) (next.cause q)
   ];
-}
-
-pub only_written_same : (g : Got) {failed wanted : Type 0} → (failed → ⊥) → (wanted → ⊥) → OnlyWritten g g failed wanted
-only_written_same g never none = record {
-  faults = omega arith;
-  wants = omega arith;
-  cause = λ f. absurd (never f);
-  want = λ w. absurd (none w);
-}
-
-pub only_written_as : (a b : Got) {P Q R S : Type 0} → OnlyWritten a b P Q → (R → P) → (S → Q) → OnlyWritten a b R S
-only_written_as a b first failed wanted = record {
-  faults = first.faults;
-  wants = first.wants;
-  cause = λ r. first.cause (failed r);
-  want = λ s. first.want (wanted s);
 }
 
 -- a write and one after it, where the first was answered

@@ -19,11 +19,6 @@ place_here name [] i d lt absent is = absurd (omega arith)
 place_here name (e ∷ es) zero d lt absent is = is
 place_here name (e ∷ es) (suc i) d lt absent is = (absent.0, place_here name es i d (omega arith) absent.1 is)
 
-pub place_below : (name : List ℕ) (es : List Entry) (i : ℕ) → IsPlace name es i → i < length es
-place_below name [] i place = absurd place
-place_below name (e ∷ es) zero place = omega arith
-place_below name (e ∷ es) (suc i) place = omega (arith, place_below name es i place.1)
-
 -- a file that is set in its place
 pub files_of-set : (name : List ℕ) (es : List Entry) (i : ℕ) (f : Entry) → IsPlace name es i → string_bytes f.0 ≡ name → files_of (set es i f) ≡ insert (files_of es) name f.1.items
 files_of-set name [] i f place is = absurd place

@@ -1,5 +1,6 @@
 -- What clauses say of the shelves and of the output in memory.
-use Rattle.std.specs.Prelude.{ℕ, List, Bool, Some}
+use Rattle.std.specs.Prelude.{◌≡◌, ◌⊎◌, ℕ, List, Bool, true, false, Some, None, IsSome}
+use Rattle.std.specs.FinMap.{get}
 use Rattle.ann_shelf.specs.declared.mem_shelf.MemShelf.{MemShelf}
 use Rattle.ann_shelf.specs.declared.mem_out.MemOut.{MemOut}
 use Rattle.ann_shelf.specs.declared.sound_shelf.SoundShelf.{SoundShelf}
@@ -8,6 +9,7 @@ use Rattle.ann_shelf.specs.Shown.{Shown}
 use Rattle.ann_shelf.specs.Written.{Got}
 use Rattle.ann_shelf.specs.NamedFiles.{files_of}
 use Rattle.ann_shelf.specs.Calls.{next_call, is_among}
+use Rattle.ann_shelf.specs.Faults.{next_count}
 
 -- the files that a shelf in memory holds
 abbrev pub shelf_files : MemShelf → Files
@@ -45,6 +47,22 @@ shelf_shown s = record {
   read_faults = λ _. shelf_read_faults s;
   write_faults = λ _. shelf_write_faults s;
 }
+
+-- an append or finish fails exactly where its number is set or its file isn't begun; `ok` and `failed` say what it answered
+pub record FailsAsSet (s : MemShelf) (name : List ℕ) (ok failed : Type 0) : Type 0 where
+  pub answered : ok → (next_fails s ≡ false) × IsSome (get (shelf_begun s) name)
+  pub set : next_fails s ≡ true → failed
+  pub missing : get (shelf_begun s) name ≡ None → failed
+  pub refused : failed → (next_fails s ≡ true) ⊎ (get (shelf_begun s) name ≡ None)
+
+-- a begin, append or finish counts as one call, and as a failed write exactly where it failed
+pub record WriteCounts (old new : MemShelf) (ok failed no_memory : Type 0) : Type 0 where
+  pub calls : shelf_calls new ≡ next_call (shelf_calls old)
+  pub failing : shelf_fails new ≡ shelf_fails old
+  pub counted : failed → shelf_write_faults new ≡ next_count (shelf_write_faults old)
+  pub uncounted : ok → shelf_write_faults new ≡ shelf_write_faults old
+  pub no_memory_uncounted : no_memory → shelf_write_faults new ≡ shelf_write_faults old
+  pub reads : shelf_read_faults new ≡ shelf_read_faults old
 
 -- the files that a shelf that never fails holds
 abbrev pub sound_files : SoundShelf → Files

@@ -1,7 +1,7 @@
 ghost use Rattle.std.specs.Prelude.{◌≡◌, ◌≤◌};
 ghost use Rattle.ann_shelf.specs.Faults.{Rose};
 
-use crate::faults::failed;
+use crate::faults::counted;
 use crate::open_files::OpenFiles;
 use crate::{Shelf, Slip};
 use std::alloc::Global;
@@ -49,7 +49,7 @@ fn slip_of(error: &io::Error, count: &mut u64) -> Slip
     if error.kind() == ErrorKind::OutOfMemory {
         return Slip::NoMemory;
     }
-    failed(count)
+    counted(Slip::Failed, count)
 }
 
 impl<'r, R: Files> Shelf for DirShelf<'r, R> {

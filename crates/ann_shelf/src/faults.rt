@@ -4,24 +4,13 @@ ghost use Rattle.ann_shelf.specs.Faults.{Rose, next_count};
 
 use crate::Slip;
 
-// Counts a fault. The count stays at the last value of u64.
-pub(crate) fn failed(count: &mut u64) -> Slip
-    ensures slip { result ≡ Slip.Failed }
+// Counts a refusal and passes it on. The count stays at the last value of u64.
+pub(crate) fn counted(slip: Slip, count: &mut u64) -> Slip
+    ensures slip { result ≡ slip }
     ensures counted { count.new ≡ next_count count.old }
     ensures rose { Rose count.old count.new }
     ensures grew { count.old ≤ count.new }
 {
     *count = count.saturating_add(1);
-    Slip::Failed
-}
-
-// Counts a want of memory. The count stays at the last value of u64.
-pub(crate) fn wanted(count: &mut u64) -> Slip
-    ensures slip { result ≡ Slip.NoMemory }
-    ensures counted { count.new ≡ next_count count.old }
-    ensures rose { Rose count.old count.new }
-    ensures grew { count.old ≤ count.new }
-{
-    *count = count.saturating_add(1);
-    Slip::NoMemory
+    slip
 }

@@ -3,8 +3,8 @@
 //!
 //! `DirShelf` and `StdOut` are the real folder and the standard streams. `MemShelf` and `MemOut` stand for them in
 //! tests: of their calls those with chosen numbers fail. `SoundShelf` is a shelf on which no call fails.
-//! A refusal is a `Slip`: `Failed` comes only where the object's count of faults rose, `NoMemory` where there was
-//! no memory. `append_all` and `write_all` carry a piece through, however little one call takes.
+//! An error is a `Slip`: `Failed` comes only where the object's count of faults rose, `NoMemory` where there was no
+//! memory. `append_all` and `write_all` carry a piece through, however little one call takes.
 #![tactic(auto)]
 
 mod calls;

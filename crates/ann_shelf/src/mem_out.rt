@@ -4,7 +4,7 @@ ghost use Rattle.ann_shelf.specs.Faults.{next_count};
 ghost use Rattle.ann_shelf.specs.Written.{OnlyWritten};
 
 use crate::calls::is_to_fail;
-use crate::faults::{failed, wanted};
+use crate::faults::counted;
 use crate::{NoMemory, Out, Slip};
 use std::alloc::Global;
 
@@ -82,11 +82,11 @@ impl Out for MemOut {
         ensures only_written { OnlyWritten (out_got self.old) (out_got self.new) (IsErrOf result Slip.Failed) (IsErrOf result Slip.NoMemory) }
     {
         if is_to_fail(&mut self.calls, &self.failing) {
-            return Err(failed(&mut self.faults));
+            return Err(counted(Slip::Failed, &mut self.faults));
         }
         match self.bytes.extend_from_slice(bytes) {
             Ok(()) => Ok(bytes.len()),
-            Err(_) => Err(wanted(&mut self.wants)),
+            Err(_) => Err(counted(Slip::NoMemory, &mut self.wants)),
         }
     }
 }

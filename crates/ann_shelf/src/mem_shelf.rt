@@ -1,4 +1,4 @@
-ghost use Rattle.std.specs.Prelude.{◌≡◌, ◌⊎◌, true, false, ◌||◌, ◌==◌, ◌++◌, [], ◌≤◌, ℕ, None, length, OnOk, OnErr, IfOk, IfErr, IsSome, IsErrOf, option_map};
+ghost use Rattle.std.specs.Prelude.{◌≡◌, ◌⊎◌, true, false, ◌||◌, ◌==◌, ◌++◌, [], ◌≤◌, ℕ, None, length, OnOk, OnErr, IfOk, IfErr, IsSome, IsOk, IsErrOf, option_map};
 ghost use Rattle.std.specs.FinMap.{get};
 ghost use Rattle.ann_shelf.specs.Calls.{next_call};
 ghost use Rattle.ann_shelf.specs.Faults.{next_count};
@@ -6,7 +6,7 @@ ghost use Rattle.ann_shelf.specs.Files.{no_files, bytes_of, with_file, without_f
 ghost use Rattle.ann_shelf.specs.Shown.{OnlyReads, OnlyWrites};
 
 use crate::calls::is_to_fail;
-use crate::faults::failed;
+use crate::faults::counted;
 use crate::named_files::{extend_file, file_at, read_from, set_file, take_file};
 use crate::{NoMemory, Shelf, Slip};
 use std::alloc::Global;
@@ -97,7 +97,7 @@ impl MemShelf {
 impl Shelf for MemShelf {
     ghost use Rattle.std.specs.Prelude.{refl};
     ghost use Rattle.ann_shelf.specs.declared.slip.Slip.TheVariants.{Failed};
-    ghost use Rattle.ann_shelf.specs.MemWords.{shelf_files, shelf_begun, shelf_calls, shelf_fails, next_fails, shelf_read_faults, shelf_write_faults, shelf_shown};
+    ghost use Rattle.ann_shelf.specs.MemWords.{shelf_files, shelf_begun, shelf_calls, shelf_fails, next_fails, shelf_read_faults, shelf_write_faults, shelf_shown, FailsAsSet, WriteCounts};
 
     ghost shown = { shelf_shown };
 
@@ -117,15 +117,15 @@ impl Shelf for MemShelf {
         ensures only_reads { OnlyReads (shelf_shown self.old) (shelf_shown self.new) name.now (IsErrOf result Slip.Failed) }
     {
         if is_to_fail(&mut self.calls, &self.failing) {
-            return Err(failed(&mut self.read_faults));
+            return Err(counted(Slip::Failed, &mut self.read_faults));
         }
         match file_at(&self.files, name) {
             Some(bytes) => Ok(read_from(bytes, at, into)),
-            None => Err(failed(&mut self.read_faults)),
+            None => Err(counted(Slip::Failed, &mut self.read_faults)),
         }
     }
 
-    /// Fails where its number is set, and nowhere else. Whatever it answers in place of `Ok`, nothing that is begun changed.
+    /// Fails where its number is set, and nowhere else. After a refusal nothing that is begun changed.
     fn begin(&mut self, name: &str) -> Result<(), Slip>
         ensures ok { OnOk result (shelf_begun self.new ≡ with_file (shelf_begun self.old) name.now []) }
         ensures err { OnErr result (shelf_begun self.new ≡ shelf_begun self.old) }
@@ -133,72 +133,51 @@ impl Shelf for MemShelf {
         ensures answered { OnOk result (next_fails self.old ≡ false) }
         ensures set { next_fails self.old ≡ true → IsErrOf result Slip.Failed }
         ensures refused { IsErrOf result Slip.Failed → next_fails self.old ≡ true }
-        ensures calls { shelf_calls self.new ≡ next_call (shelf_calls self.old) }
-        ensures failing { shelf_fails self.new ≡ shelf_fails self.old }
-        ensures counted { IsErrOf result Slip.Failed → shelf_write_faults self.new ≡ next_count (shelf_write_faults self.old) }
-        ensures uncounted { OnOk result (shelf_write_faults self.new ≡ shelf_write_faults self.old) }
-        ensures no_memory_uncounted { IsErrOf result Slip.NoMemory → shelf_write_faults self.new ≡ shelf_write_faults self.old }
-        ensures reads { shelf_read_faults self.new ≡ shelf_read_faults self.old }
+        ensures counts { WriteCounts self.old self.new (IsOk result) (IsErrOf result Slip.Failed) (IsErrOf result Slip.NoMemory) }
         ensures only_writes { OnlyWrites (shelf_shown self.old) (shelf_shown self.new) name.now (IsErrOf result Slip.Failed) }
     {
         if is_to_fail(&mut self.calls, &self.failing) {
-            return Err(failed(&mut self.write_faults));
+            return Err(counted(Slip::Failed, &mut self.write_faults));
         }
         set_file(self.alloc, &mut self.begun, name, Vec::new(self.alloc))?;
         Ok(())
     }
 
     /// Takes the whole piece. Fails where its number is set and where the file isn't begun, and nowhere else.
-    /// Whatever it answers in place of `Ok`, nothing that is begun changed.
+    /// After a refusal nothing that is begun changed.
     fn append(&mut self, name: &str, bytes: &[u8]) -> Result<usize, Slip>
         ensures whole { IfOk result (λ k. k ≡ length bytes.now) }
         ensures ok { OnOk result (shelf_begun self.new ≡ with_file (shelf_begun self.old) name.now (bytes_of (shelf_begun self.old) name.now ++ bytes.now)) }
         ensures err { OnErr result (shelf_begun self.new ≡ shelf_begun self.old) }
         ensures held { shelf_files self.new ≡ shelf_files self.old }
-        ensures answered { OnOk result ((next_fails self.old ≡ false) × IsSome (get (shelf_begun self.old) name.now)) }
-        ensures set { next_fails self.old ≡ true → IsErrOf result Slip.Failed }
-        ensures missing { get (shelf_begun self.old) name.now ≡ None → IsErrOf result Slip.Failed }
-        ensures refused { IsErrOf result Slip.Failed → (next_fails self.old ≡ true) ⊎ (get (shelf_begun self.old) name.now ≡ None) }
-        ensures calls { shelf_calls self.new ≡ next_call (shelf_calls self.old) }
-        ensures failing { shelf_fails self.new ≡ shelf_fails self.old }
-        ensures counted { IsErrOf result Slip.Failed → shelf_write_faults self.new ≡ next_count (shelf_write_faults self.old) }
-        ensures uncounted { OnOk result (shelf_write_faults self.new ≡ shelf_write_faults self.old) }
-        ensures no_memory_uncounted { IsErrOf result Slip.NoMemory → shelf_write_faults self.new ≡ shelf_write_faults self.old }
-        ensures reads { shelf_read_faults self.new ≡ shelf_read_faults self.old }
+        ensures failures { FailsAsSet self.old name.now (IsOk result) (IsErrOf result Slip.Failed) }
+        ensures counts { WriteCounts self.old self.new (IsOk result) (IsErrOf result Slip.Failed) (IsErrOf result Slip.NoMemory) }
         ensures only_writes { OnlyWrites (shelf_shown self.old) (shelf_shown self.new) name.now (IsErrOf result Slip.Failed) }
     {
         if is_to_fail(&mut self.calls, &self.failing) {
-            return Err(failed(&mut self.write_faults));
+            return Err(counted(Slip::Failed, &mut self.write_faults));
         }
         if extend_file(&mut self.begun, name, bytes)? {
             return Ok(bytes.len());
         }
-        Err(failed(&mut self.write_faults))
+        Err(counted(Slip::Failed, &mut self.write_faults))
     }
 
     /// Fails where its number is set and where the file isn't begun, and nowhere else.
-    /// Whatever it answers in place of `Ok`, nothing that is held changed.
+    /// After a refusal nothing that is held changed.
     fn finish(&mut self, name: &str) -> Result<(), Slip>
         ensures ok { OnOk result (shelf_files self.new ≡ with_file (shelf_files self.old) name.now (bytes_of (shelf_begun self.old) name.now)) }
         ensures ended { OnOk result (shelf_begun self.new ≡ without_file (shelf_begun self.old) name.now) }
         ensures err { OnErr result (shelf_files self.new ≡ shelf_files self.old) }
-        ensures answered { OnOk result ((next_fails self.old ≡ false) × IsSome (get (shelf_begun self.old) name.now)) }
-        ensures set { next_fails self.old ≡ true → IsErrOf result Slip.Failed }
-        ensures missing { get (shelf_begun self.old) name.now ≡ None → IsErrOf result Slip.Failed }
-        ensures refused { IsErrOf result Slip.Failed → (next_fails self.old ≡ true) ⊎ (get (shelf_begun self.old) name.now ≡ None) }
-        ensures calls { shelf_calls self.new ≡ next_call (shelf_calls self.old) }
-        ensures failing { shelf_fails self.new ≡ shelf_fails self.old }
-        ensures counted { IsErrOf result Slip.Failed → shelf_write_faults self.new ≡ next_count (shelf_write_faults self.old) }
-        ensures uncounted { OnOk result (shelf_write_faults self.new ≡ shelf_write_faults self.old) }
-        ensures no_memory_uncounted { IsErrOf result Slip.NoMemory → shelf_write_faults self.new ≡ shelf_write_faults self.old }
-        ensures reads { shelf_read_faults self.new ≡ shelf_read_faults self.old }
+        ensures failures { FailsAsSet self.old name.now (IsOk result) (IsErrOf result Slip.Failed) }
+        ensures counts { WriteCounts self.old self.new (IsOk result) (IsErrOf result Slip.Failed) (IsErrOf result Slip.NoMemory) }
         ensures only_writes { OnlyWrites (shelf_shown self.old) (shelf_shown self.new) name.now (IsErrOf result Slip.Failed) }
     {
         if is_to_fail(&mut self.calls, &self.failing) {
-            return Err(failed(&mut self.write_faults));
+            return Err(counted(Slip::Failed, &mut self.write_faults));
         }
         let Some(bytes) = take_file(&mut self.begun, name) else {
-            return Err(failed(&mut self.write_faults));
+            return Err(counted(Slip::Failed, &mut self.write_faults));
         };
         set_file(self.alloc, &mut self.files, name, bytes)?;
         Ok(())

@@ -63,7 +63,7 @@ pub(crate) fn extend_file(
     }
 }
 
-// Takes a file out of the list, and answers its bytes where there is one.
+// Takes a file out of the list, and returns its bytes if there was one.
 pub(crate) fn take_file(files: &mut Vec<(String, Vec<u8>)>, name: &str) -> Option<Vec<u8>>
     ensures value { option_map (λ bytes. bytes.items) result ≡ get (files_of files.old.items) name.now }
     ensures rest { files_of files.new.items ≡ without_file (files_of files.old.items) name.now }

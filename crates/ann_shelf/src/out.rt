@@ -11,7 +11,7 @@ pub trait Out {
     /// What the output got: bytes, and counts of faults and of want of memory.
     ghost got: { Self → Got };
 
-    /// Writes the first bytes of a piece, at least one where there is one, and answers how many.
+    /// Writes the first bytes of a piece, at least one where there is one, and returns how many.
     ///
     /// After `Failed` a prefix of the piece, perhaps the empty one, was written; after `NoMemory` nothing was.
     fn write(&mut self, bytes: &[u8]) -> Result<usize, Slip>

@@ -16,7 +16,7 @@ pub trait Shelf {
     /// What the shelf shows: files held and begun, and counts of faults.
     ghost shown: { Self → Shown };
 
-    /// Reads from a place of the file on, counted in bytes from 0, and answers how many bytes came.
+    /// Reads from a place of the file on, counted in bytes from 0, and returns how many bytes came.
     ///
     /// Fewer than asked may come; none come only where `into` is empty or the place is at or past the end.
     /// A missing file is a fault or counts as empty, as the shelf says.
@@ -31,7 +31,7 @@ pub trait Shelf {
         ensures held { (shown self.new).held ≡ (shown self.old).held }
         ensures only_writes { OnlyWrites (shown self.old) (shown self.new) name.now (IsErrOf result Slip.Failed) };
 
-    /// Adds the first bytes of a piece at the end of what is begun, at least one where there is one, and answers how many.
+    /// Adds the first bytes of a piece at the end of what is begun, at least one where there is one, and returns how many.
     ///
     /// A file that isn't begun is a fault or is begun, as the shelf says. After `Failed` it can't be told what is begun
     /// of this name: a caller that wants the file begins it again.

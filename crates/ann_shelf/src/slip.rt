@@ -1,9 +1,9 @@
-//! What a call of the outside may answer in place of `Ok`, and what limits speak of.
+//! The errors of calls of the outside, and what limits speak of.
 ghost use Rattle.std.specs.Prelude.{◌≡◌};
 
 use std::alloc::{AllocError, AllocFailed};
 
-/// There was no memory. It is the one answer that may always come.
+/// There was no memory. Any call that takes memory may fail with it.
 #[derive(Clone, Copy, Debug, PartialEq, Eq)]
 pub struct NoMemory;
 
@@ -19,7 +19,7 @@ impl<T: Drop> From<AllocFailed<T>> for NoMemory {
     }
 }
 
-/// What a call of a shelf or an output may answer in place of `Ok`.
+/// The error of a call of a shelf or an output.
 #[derive(Clone, Copy, Debug, PartialEq, Eq)]
 pub enum Slip {
     /// The call failed; the object's count of faults rose, or stands at its last value.
@@ -48,7 +48,7 @@ impl From<NoMemory> for Slip {
     }
 }
 
-/// What a limit speaks of. It stands here since the readers of points and of indexes and the program all answer it.
+/// What a limit speaks of. It stands here since the errors of both readers and of the program name it.
 #[derive(Clone, Copy, Debug, PartialEq, Eq)]
 pub enum Quantity {
     /// Points or queries.

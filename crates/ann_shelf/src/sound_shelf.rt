@@ -7,7 +7,7 @@ use crate::named_files::{extend_file, file_at, read_from, set_file, take_file};
 use crate::{NoMemory, Shelf, Slip};
 use std::alloc::Global;
 
-/// Files in memory on which no call fails: a call is answered, or there is no memory.
+/// Files in memory on which no call fails but with `NoMemory`.
 ///
 /// A missing file is read as an empty one. An append begins a file that isn't begun, and a finish of one leaves an empty file.
 #[derive(Drop)]
@@ -59,7 +59,7 @@ impl Shelf for SoundShelf {
 
     ghost tells_begun = { λ _. refl };
 
-    /// Always answers. A missing file is read as an empty one.
+    /// Never fails. A missing file is read as an empty one.
     fn read_at(&mut self, name: &str, at: u64, into: &mut [u8]) -> Result<usize, Slip>
         ensures answered { IsOk result }
         ensures bound { IfOk result (λ k. k ≤ length into.new) }

@@ -1,6 +1,6 @@
 ghost use Rattle.std.specs.Prelude.{◌≤◌, length, IfOk};
 
-use crate::faults::{failed, wanted};
+use crate::faults::counted;
 use crate::{Out, Slip};
 use std::io;
 use std::io::ErrorKind;
@@ -62,8 +62,11 @@ impl<'r, R: Print + Eprint> Out for StdOut<'r, R> {
     fn write(&mut self, bytes: &[u8]) -> Result<usize, Slip> {
         match write_some(self.rt, self.is_err, bytes) {
             Ok(k) if 0 < k || bytes.is_empty() => Ok(k),
-            Err(e) if e.kind() == ErrorKind::OutOfMemory => Err(wanted(&mut self.wants)),
-            _ => Err(failed(&mut self.faults)),
+            Err(e) if e.kind() == ErrorKind::OutOfMemory => Err(counted(
+                Slip::NoMemory,
+                &mut self.wants,
+            )),
+            _ => Err(counted(Slip::Failed, &mut self.faults)),
         }
     }
 }

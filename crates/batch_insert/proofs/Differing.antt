@@ -34,10 +34,10 @@ module _ (old new : ℕ → List ℕ) where
   abbrev pub differs : ℕ → Bool
   differs u = not (pointwise nat_eq (new u) (old u))
 
-  same_row : (u : ℕ) → differs u ≡ false → new u ≡ old u
+  pub same_row : (u : ℕ) → differs u ≡ false → new u ≡ old u
   same_row u h = (slice_eq-Decides Decides-eqb (new u) (old u) (pointwise nat_eq (new u) (old u)) refl).0 (not-false (pointwise nat_eq (new u) (old u)) h)
 
-  row_same : (u : ℕ) → new u ≡ old u → differs u ≡ false
+  pub row_same : (u : ℕ) → new u ≡ old u → differs u ≡ false
   row_same u e = ap not ((slice_eq-Decides Decides-eqb (new u) (old u) (pointwise nat_eq (new u) (old u)) refl).1 e)
 
   last_entry : (u : ℕ) → differing old new (u ∷ []) ≡ cond (differs u) ((u, new u) ∷ []) []

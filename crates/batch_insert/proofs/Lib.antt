@@ -8,3 +8,4 @@ pub mod UpTo
 pub mod Differing
 pub mod OnePass
 pub mod SameRows
+pub mod LayerPut

@@ -31,7 +31,7 @@ no_length : (xs : List ℕ) → ((x : ℕ) → Has xs x → ⊥) → length xs �
 no_length [] h = refl
 no_length (x ∷ xs) h = absurd (h x (inl refl))
 
-rises_once : (xs : List ℕ) → Rises nat_cmp xs → Once xs
+pub rises_once : (xs : List ℕ) → Rises nat_cmp xs → Once xs
 rises_once [] h = tt
 rises_once (x ∷ xs) h = (λ m. let less : x < x = ranked x x Less (sym (below_has nat_cmp nat_order x x xs h.0 m)) in omega arith, rises_once xs h.1)
 
