@@ -1,0 +1,6 @@
+pub mod OneFound
+pub mod Walking
+pub mod HeldRows
+pub mod Enterable
+pub mod Stepping
+pub mod Descending

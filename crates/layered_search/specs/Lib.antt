@@ -1,0 +1,4 @@
+pub mod KnnSearch
+pub mod Descent
+pub mod Entering
+pub mod Laws
