@@ -1,4 +1,3 @@
 pub mod Blocks
-pub mod FromSearch
 pub mod Rounds
 pub mod Short

@@ -2,15 +2,14 @@
 use Rattle.std.proofs.Common.{ℕ, ◌≤◌, List, [], ◌∷◌, length, arith, length-take}
 use Rattle.std.specs.List.{All}
 use Rattle.std.proofs.lemmas.List.Elements.{All-nil, All-cons}
-use Rattle.ann_defs.specs.GreedySearch.{found_of}
 use Rattle.graph_rows.specs.Index.{Contents}
-use Rattle.batch_search.specs.Answers.{base_row, answer_of, answers_of}
+use Rattle.layered_search.specs.Descent.{descent_in}
+use Rattle.batch_search.specs.Answers.{answer_of, answers_of}
 
 module _ (points : List (List ℕ)) (i : Contents) (beam k : ℕ) where
   pub answer_short : (query : List ℕ) → length (answer_of points i beam k query) ≤ k
-  unfolding answer_of
   answer_short query =
-      let all = length-take k (found_of points (base_row i) query beam (i.start ∷ [])) in
+      let all = length-take k (descent_in points i query beam) in
       omega (arith, all)
 
   pub answers_short : (queries : List (List ℕ)) → All (λ nears. length nears ≤ k) (answers_of points i beam k queries)

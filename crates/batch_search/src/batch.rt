@@ -1,11 +1,10 @@
 //! What is asked of which index.
-ghost use Rattle.std.specs.Prelude.{◌≡◌, ◌<◌, ◌≤◌, length};
+ghost use Rattle.std.specs.Prelude.{◌≡◌, ◌≤◌, length};
 ghost use Rattle.ann_defs.specs.declared.limits.TheConstants.{MAX_BEAM};
-ghost use Rattle.std.proofs.Props.{props};
+ghost use Rattle.graph_rows.proofs.WellFormedProps.{well_formed_prop};
 ghost use Rattle.ann_defs.specs.Distance.{dim_of};
-ghost use Rattle.ann_defs.specs.Graph.{AreGoodRows};
 ghost use Rattle.graph_rows.specs.View.{contents};
-ghost use Rattle.graph_rows.specs.WellFormed.{IsWellFormed, base_bound};
+ghost use Rattle.graph_rows.specs.WellFormed.{IsWellFormed};
 
 use bin_files::Points;
 use graph_rows::Index;
@@ -21,8 +20,8 @@ pub struct QueryBatch<'a> {
     pub queries: &'a Points,
     pub beam: u32,
     pub k: u32,
-    ghost good: { AreGoodRows (length points.now.vectors) (base_bound (contents index.now).kind index.now.degree) index.now.base.rows } by { Prim.hlevel props },
-    ghost start: { index.now.start < length points.now.vectors },
+    ghost well_formed: { IsWellFormed (contents index.now) } by { well_formed_prop (contents index.now) },
+    ghost count: { index.now.count ≡ length points.now.vectors },
     ghost dim: { dim_of queries.now.vectors ≡ dim_of points.now.vectors },
     ghost wide: { (1 ≤ beam) × (beam ≤ MAX_BEAM) },
     ghost few: { (1 ≤ k) × (k ≤ beam) },

@@ -9,7 +9,8 @@ ghost use Rattle.beam_search.specs.Serving.{Serves};
 use crate::answering::Answering;
 use crate::batch::QueryBatch;
 use crate::block::write_answer;
-use beam_search::{Scratch, found, search};
+use beam_search::{Scratch, found};
+use layered_search::descend;
 
 impl<'a> Answering for QueryBatch<'a> {
     type Scratch = Scratch;
@@ -41,14 +42,8 @@ fn write_query(batch: &QueryBatch, query: u32, scratch: &mut Scratch, out: &mut 
     ensures out { out.new ≡ block_of (2 * batch.now.k + 1) (answer_of batch.now.points.now.vectors (contents batch.now.index.now) batch.now.beam batch.now.k (point batch.now.queries.now.vectors query)) }
     ensures serves { Serves (length batch.now.points.now.vectors) batch.now.beam scratch.new }
 {
-    search(
-        batch.points,
-        &batch.index.base,
-        &[batch.index.start],
-        batch.queries.at(query),
-        batch.beam,
-        scratch,
-    );
+    let asked = batch.queries.at(query);
+    descend(batch.points, batch.index, asked, batch.beam, scratch);
     let nears = found(scratch);
     let len = nears.len().min(batch.k as usize);
     write_answer(&nears[..len], out);

@@ -7,3 +7,4 @@ pub mod LayerRowFacts
 pub mod MemberIds
 pub mod Parts
 pub mod Totals
+pub mod WellFormedProps
