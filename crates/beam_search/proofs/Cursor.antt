@@ -66,10 +66,6 @@ visited_none n seen old new some up only u lt =
       | inr now ↦ let is : mark_of new u ≡ seen = now.1 in absurd (omega arith)
     ])
 
--- at first no mark is as late as the stamp
-pub settled_none : (points : List (List ℕ)) (query : List ℕ) (beam seen : ℕ) (found : List Near) (marks : List ℕ) → 1 ≤ seen → AreUpTo (seen - 1) marks → AreSettled points query beam seen found marks
-settled_none points query beam seen found marks some up u lt later = let low = up u in absurd (omega arith)
-
 pub up_to_seen : (seen : ℕ) (old new : List ℕ) → AreUpTo (seen + 1) old → OnlySeen seen old new → AreUpTo (seen + 1) new
 up_to_seen seen old new up only u = elim (only u) as (λ _. mark_of new u ≤ seen + 1) [
   | inl same ↦ let low = up u in omega arith

@@ -1,5 +1,5 @@
 -- One turn of the search's loop.
-use Rattle.std.proofs.Common.{◌≡◌, ℕ, ◌+◌, ◌<◌, ◌≤◌, Bool, true, not, Some, List, [], ◌∷◌, ◌++◌, take, set, length, get_or, sym, subst, arith}
+use Rattle.std.proofs.Common.{◌≡◌, ℕ, ◌+◌, ◌<◌, ◌≤◌, Bool, true, not, Some, List, [], ◌∷◌, ◌++◌, take, set, length, get_or, sym, ap, ◌∙◌, subst, arith}
 use Rattle.std.specs.List.{fold, All}
 use Rattle.std.proofs.lemmas.List.{take_more_set, length-take-le, get_or-take}
 use Rattle.std.proofs.lemmas.List.Elements.{All-weaker}
@@ -47,7 +47,11 @@ module _ (points : List (List ℕ)) (row : ℕ → List ℕ) (query : List ℕ) 
   pub visited_p : length visited ≡ length points → take (count + 1) (set visited count p) ≡ take count visited ++ p ∷ []
   visited_p long = let c = count_room in take_more_set visited count p (omega arith)
 
-  module _ (found' : List Near) (len' : ℕ) (offered : take len' found' ≡ take beam (fold (put near_cmp) (take len found) (all_near points query (row p.id)))) (room' : len' ≤ length found') (long : length visited ≡ length points) where
+  -- once the row of p was offered
+  module _ (found' : List Near) (len' : ℕ) (near : List ℕ) (is : near ≡ row p.id) (told : take len' found' ≡ take beam (fold (put near_cmp) (take len found) (all_near points query near))) (room' : len' ≤ length found') (long : length visited ≡ length points) where
+    offered : take len' found' ≡ take beam (fold (put near_cmp) (take len found) (all_near points query (row p.id)))
+    offered = told ∙ ap (λ ids. take beam (fold (put near_cmp) (take len found) (all_near points query ids))) is
+
     pub walking_next : IsWalking points row query beam held start (walk_in found' len' (set visited count p) (count + 1)) (count + 1)
     walking_next =
         let c = count_room in
@@ -59,3 +63,9 @@ module _ (points : List (List ℕ)) (row : ℕ → List ℕ) (query : List ℕ) 
         let few : length (take len' found') ≡ len' = length-take-le len' found' room' in
         let there : Has (take len' found') (get_or (take len' found') k d) = has_get_or (take len' found') k d (omega arith) in
         subst (λ (x : Near). x.id < length points) (get_or-take len' found' k d less) (g.below (get_or (take len' found') k d).id (walking_next.sound.found_right (get_or (take len' found') k d) there).0)
+
+    pub ids_left : (marks : List ℕ) → length marks ≡ length points → (k : ℕ) (d : Near) → k < length (take len' found') → (get_or (take len' found') k d).id < length marks
+    ids_left marks same k d less =
+        let few : length (take len' found') ≡ len' = length-take-le len' found' room' in
+        subst (λ m. (get_or (take len' found') k d).id < m) (sym same)
+        (subst (λ (x : Near). x.id < length points) (sym (get_or-take len' found' k d (omega arith))) (ids_next k d (omega arith)))

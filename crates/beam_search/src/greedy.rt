@@ -15,11 +15,11 @@ use bin_files::Points;
 use graph_rows::Rows;
 use near_lists::next_stamp;
 
-/// Searches the graph from the starts for what is near to the query. The scratch has the answer.
+/// Searches the graph from the starts for what is near to the query. The scratch holds what is found and visited.
 ///
 /// This is GreedySearch (DiskANN, Algorithm 1) and SEARCH-LAYER (HNSW, Algorithm 2). `beam` is `L` in DiskANN and `ef`
-/// in HNSW. Distances are squared, and of two as near the smaller id comes first. No point is visited twice, and no
-/// distance is taken twice. It takes no memory and refuses nothing.
+/// in HNSW. Distances are squared, and ties go to the smaller id. No point is visited twice, and no distance is taken
+/// twice. It takes no memory and can't fail.
 pub fn search<R: Rows>(
     points: &Points,
     graph: &R,
@@ -39,25 +39,6 @@ pub fn search<R: Rows>(
     ensures found { AreMeasured points.now.vectors query.now (R.held graph.now) scratch.new.last.found }
     ensures rises { Rises near_cmp scratch.new.last.found }
     ensures short { length scratch.new.last.found ≤ beam }
-{
-    walk_graph(points, graph, starts, query, beam, scratch);
-}
-
-// Searches the graph. The scratch has the answer.
-fn walk_graph<R: Rows>(
-    points: &Points,
-    graph: &R,
-    starts: &[u32],
-    query: &[u8],
-    beam: u32,
-    scratch: &mut Scratch,
-)
-    requires query { length query.now ≡ dim_of points.now.vectors }
-    requires graph { IsGraph (length points.now.vectors) (R.held graph.now) (R.row_of graph.now) }
-    requires starts { All (λ u. R.held graph.now u ≡ true) starts.now }
-    requires points { scratch.old.count ≡ length points.now.vectors }
-    requires beam { beam ≤ scratch.old.beam }
-    ensures { scratch.new ≡ after_search scratch.old (search_of points.now.vectors (R.row_of graph.now) query.now beam starts.now) }
 {
     let seen = next_stamp(&mut scratch.marks, scratch.last_stamp);
     let (found_len, visited_len) = walk_all(

@@ -45,7 +45,7 @@ impl Model for Scratch {
 impl Scratch {
     /// A scratch for searches of `n` points with a beam of at most `beam`. Nothing is found or visited yet.
     ///
-    /// All memory is taken here. A refusal leaves nothing.
+    /// All memory is taken here. A failure leaves nothing.
     pub fn new(alloc: Global, n: u32, beam: u32) -> Result<Scratch, NoMemory>
         requires n { (1 ≤ n) × (n ≤ MAX_POINTS) }
         requires beam { (1 ≤ beam) × (beam ≤ MAX_BEAM) }
@@ -86,8 +86,7 @@ pub fn visited(scratch: &Scratch) -> &[Near]
     &scratch.visited[..scratch.visited_len]
 }
 
-/// Room for as many entries as the scratch is for points, and for a longest row more. The entries are
-/// any.
+/// Room for as many entries as the scratch is for points, and for a longest row more, whatever it holds.
 ///
 /// What is written there changes nothing else: the scratch stays as it is.
 pub fn room(scratch: &mut Scratch) -> &mut [Near]

@@ -12,7 +12,7 @@ use graph_rows::Rows;
 use near_lists::offer_unseen;
 
 /// Searches the graph over two slices: the search list stands at the front of `found`, in order, and the visited at the
-/// front of `visited`. The answers are how many were found and how many were visited.
+/// front of `visited`. Returns how many were found and how many were visited.
 ///
 /// A mark is `seen` once the id was offered, and the stamp after it once the id is visited. `next` is the place of the
 /// first entry that isn't visited: where the row of a visited point puts an entry before it, it falls to that place.

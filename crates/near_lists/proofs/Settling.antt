@@ -1,15 +1,16 @@
 -- Which ids are settled: offering them once more changes nothing.
 use Rattle.std.proofs.Common.{◌≡◌, ℕ, ◌+◌, ◌<◌, ◌≤◌, List, [], ◌∷◌, map, take, drop, length, min, refl, sym, ap, ◌∙◌, subst, inl, inr, arith, take-add}
 use Rattle.std.specs.Prelude.{◌⊎◌}
-use Rattle.std.specs.List.{fold}
+use Rattle.std.specs.List.{fold, All}
 use Rattle.std.proofs.lemmas.Grind.{fold-append}
 use Rattle.std.proofs.lemmas.List.{take-take, take_all, map-append}
+use Rattle.std.proofs.lemmas.List.Elements.{All-take, All-drop}
 use Rattle.ann_defs.specs.declared.near.Near.{Near}
 use Rattle.ann_defs.specs.Ordered.{Has, put, Rises}
 use Rattle.ann_defs.specs.Nearness.{near_cmp, near_of, all_near}
-use Rattle.ann_defs.proofs.Order.{take-fold_put, Rises-take, Rises-put, Rises-fold_put, settled_itself, settled_more, fold_has, has_fold_old, has_fold_new, same_rising, has-map}
+use Rattle.ann_defs.proofs.Order.{All_has, take-fold_put, Rises-take, Rises-put, Rises-fold_put, settled_itself, settled_more, fold_has, has_fold_old, has_fold_new, same_rising, has-map}
 use Rattle.ann_defs.proofs.NearOrder.{near_order}
-use Rattle.ann_defs.proofs.Members.{has-mapped}
+use Rattle.ann_defs.proofs.Members.{all_from_has, has-mapped}
 use Rattle.near_lists.specs.Marks.{IsSettled, AreSettled, AreUnseen}
 use Rattle.near_lists.proofs.Inserting.{put_there}
 
@@ -73,7 +74,7 @@ pub settled_there : (k : ℕ) (found : List Near) (x : Near) → Rises near_cmp 
 settled_there k found x h short m = ap (take k) (put_there found x h m) ∙ take_all k found short
 
 module _ (points : List (List ℕ)) (query : List ℕ) (k seen : ℕ) (found : List Near) (ids old todo new : List ℕ) (rises : Rises near_cmp found) (inside : (u : ℕ) → Has ids u → u < length points) (settled : AreSettled points query k seen found old) (unseen : AreUnseen seen ids old todo new) where
-  pub unseen_enough : take k (fold (put near_cmp) found (all_near points query todo)) ≡ take k (fold (put near_cmp) found (all_near points query ids))
+  unseen_enough : take k (fold (put near_cmp) found (all_near points query todo)) ≡ take k (fold (put near_cmp) found (all_near points query ids))
   unseen_enough = only_new k found (all_near points query todo) (all_near points query ids) rises
       (λ z h. let from = has-map (near_of points query) todo z h in subst (Has (all_near points query ids)) from.2 (has-mapped (near_of points query) ids from.0 (unseen.among from.0 from.1)))
       (λ z h. let from = has-map (near_of points query) ids z h in
@@ -82,22 +83,46 @@ module _ (points : List (List ℕ)) (query : List ℕ) (k seen : ℕ) (found : L
         | inr m ↦ inr (subst (Has (all_near points query todo)) from.2 (has-mapped (near_of points query) todo from.0 m))
       ])
 
-  pub unseen_settled : AreSettled points query k seen (take k (fold (put near_cmp) found (all_near points query todo))) new
+  unseen_settled : AreSettled points query k seen (take k (fold (put near_cmp) found (all_near points query todo))) new
   unseen_settled u lt later = elim (unseen.marked u) as (λ _. IsSettled points query k (take k (fold (put near_cmp) found (all_near points query todo))) u) [
     | inl same ↦ stays_settled k (all_near points query todo) found (near_of points query u) rises (settled u lt (subst (λ m. seen ≤ m) same later))
     | inr now ↦ settled_among k (all_near points query todo) found (near_of points query u) rises (has-mapped (near_of points query) todo u now.2)
   ]
-
--- offered in parts
-pub parts_offered : (f : ℕ → Near) (k : ℕ) (base now next : List Near) (ids : List ℕ) (at n : ℕ) → now ≡ take k (fold (put near_cmp) base (map f (take at ids))) → next ≡ take k (fold (put near_cmp) now (map f (take n (drop at ids)))) → next ≡ take k (fold (put near_cmp) base (map f (take (at + n) ids)))
-parts_offered f k base now next ids at n e g =
-    g
-    ∙ ap (λ ys. take k (fold (put near_cmp) ys (map f (take n (drop at ids))))) e
-    ∙ take-fold_put near_cmp k (fold (put near_cmp) base (map f (take at ids))) (map f (take n (drop at ids)))
-    ∙ ap (take k) (sym (fold-append (put near_cmp) base (map f (take at ids)) (map f (take n (drop at ids)))) ∙ ap (fold (put near_cmp) base) (sym (map-append f (take at ids) (take n (drop at ids))) ∙ ap (map f) (sym (take-add at n ids))))
 
 -- the front that two steps leave
 pub front_left : (a b : ℕ) (xs ys zs : List Near) → take a ys ≡ take a xs → take b zs ≡ take b ys → take (min a b) zs ≡ take (min a b) xs
 front_left a b xs ys zs e g =
     sym (take-take (min a b) b zs (omega arith)) ∙ ap (take (min a b)) g ∙ take-take (min a b) b ys (omega arith)
     ∙ sym (take-take (min a b) a ys (omega arith)) ∙ ap (take (min a b)) e ∙ take-take (min a b) a xs (omega arith)
+
+-- offered in parts
+parts_offered : (f : ℕ → Near) (k : ℕ) (base now next : List Near) (ids : List ℕ) (at n : ℕ) → now ≡ take k (fold (put near_cmp) base (map f (take at ids))) → next ≡ take k (fold (put near_cmp) now (map f (take n (drop at ids)))) → next ≡ take k (fold (put near_cmp) base (map f (take (at + n) ids)))
+parts_offered f k base now next ids at n e g =
+    g
+    ∙ ap (λ ys. take k (fold (put near_cmp) ys (map f (take n (drop at ids))))) e
+    ∙ take-fold_put near_cmp k (fold (put near_cmp) base (map f (take at ids))) (map f (take n (drop at ids)))
+    ∙ ap (take k) (sym (fold-append (put near_cmp) base (map f (take at ids)) (map f (take n (drop at ids)))) ∙ ap (fold (put near_cmp) base) (sym (map-append f (take at ids) (take n (drop at ids))) ∙ ap (map f) (sym (take-add at n ids))))
+
+-- the next n of the ids, of which those that aren't marked are offered
+module _ (points : List (List ℕ)) (query : List ℕ) (k seen : ℕ) (base found : List Near) (ids old todo new : List ℕ) (at n m : ℕ) (inside : All (λ u. u < length points) ids) (is : m ≡ n) (unseen : AreUnseen seen (take m (drop at ids)) old todo new) where
+  part_inside : All (λ u. u < length points) (take m (drop at ids))
+  part_inside = All-take (λ u. u < length points) m (drop at ids) (All-drop (λ u. u < length points) at ids inside)
+
+  pub todo_inside : All (λ u. u < length points) todo
+  todo_inside = all_from_has (λ u. u < length points) todo (λ u h. All_has (λ v. v < length points) (take m (drop at ids)) u part_inside (unseen.among u h))
+
+  module _ (rises : Rises near_cmp found) (settled : AreSettled points query k seen found old) (touched : List ℕ) (same : touched ≡ todo) (next : List Near) (offered : next ≡ take k (fold (put near_cmp) found (all_near points query touched))) where
+    offered_todo : next ≡ take k (fold (put near_cmp) found (all_near points query todo))
+    offered_todo = offered ∙ ap (λ us. take k (fold (put near_cmp) found (all_near points query us))) same
+
+    part_has : (u : ℕ) → Has (take m (drop at ids)) u → u < length points
+    part_has u h = All_has (λ v. v < length points) (take m (drop at ids)) u part_inside h
+
+    pub part_settled : AreSettled points query k seen next new
+    part_settled = subst (λ ys. AreSettled points query k seen ys new) (sym offered_todo) (unseen_settled points query k seen found (take m (drop at ids)) old todo new rises part_has settled unseen)
+
+    pub part_offered : found ≡ take k (fold (put near_cmp) base (all_near points query (take at ids))) → next ≡ take k (fold (put near_cmp) base (all_near points query (take (at + n) ids)))
+    part_offered before =
+        parts_offered (near_of points query) k base found next ids at n before
+        (offered_todo ∙ unseen_enough points query k seen found (take m (drop at ids)) old todo new rises part_has settled unseen
+        ∙ ap (λ c. take k (fold (put near_cmp) found (all_near points query (take c (drop at ids))))) is)

@@ -11,7 +11,7 @@ use ann_defs::Near;
 use bin_files::Points;
 
 /// Gathers the measured and the extra ids without `p`, each once, with their squared distances to point `p`, at the front
-/// of the room. The answer is how many they are.
+/// of the room. Returns how many they are.
 ///
 /// What is gathered is marked with the stamp, and so is `p` from the start. The measured ids come with their distances to
 /// point `p`, which are not taken again.

@@ -13,8 +13,8 @@ fn is_before(a: Near, b: Near) -> bool
     a.dist < b.dist || (a.dist == b.dist && a.id < b.id)
 }
 
-/// Puts x into its place among the first `len`, once, and keeps the nearest `limit`. The answers are how many are kept,
-/// and the place from which on entries may differ.
+/// Puts x into its place among the first `len`, once, and keeps the nearest `limit`. Returns how many are kept, and the
+/// place from which on entries may differ.
 ///
 /// Where the list is full, x is compared with the last first, and mostly turned away by that. Else its place is looked
 /// up by halves, and what stands behind moves up by one.
@@ -46,7 +46,7 @@ fn is_full(list: &[Near], len: usize, limit: usize, x: Near) -> bool
     len == limit && (len == 0 || is_before(list[len - 1], x))
 }
 
-// Inserts x at a place among the first `len`, and keeps the first `limit`. The answer is how many are kept.
+// Inserts x at a place among the first `len`, and keeps the first `limit`. Returns how many are kept.
 fn insert(list: &mut [Near], len: usize, limit: usize, at: usize, x: Near) -> usize
     requires limit { limit ≤ length list.old }
     requires len { len ≤ limit }

@@ -20,7 +20,7 @@ pub fn next_stamp(marks: &mut [u32], last: u32) -> u32
     1
 }
 
-/// Collects those ids that aren't marked with this stamp or a later one, and marks them. The answer is how many.
+/// Collects those ids that aren't marked with this stamp or a later one, and marks them. Returns how many they are.
 ///
 /// Each id is written to the front of `todo`, and counted only if it is new: the work doesn't branch.
 pub fn collect(ids: &[u32], marks: &mut [u32], seen: u32, todo: &mut [u32]) -> usize

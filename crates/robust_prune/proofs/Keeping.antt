@@ -87,8 +87,3 @@ module _ (beside : ℕ → Near → Bool) where
   pub keeping_all : {r : ℕ} {cands : List Near} {out : List ℕ} {i len : ℕ} → IsKeeping r cands out i len → length cands ≤ i → take len out ≡ ids_of (kept beside r cands)
   keeping_all {r} {cands} {out} {i} {len} k done =
       sym (ap (λ zs. take len out ++ to_come (r - len) (take len out) zs) (drop_all i cands done) ∙ ap (λ zs. take len out ++ zs) (kept-nil (r - len)) ∙ append-nil (take len out)) ∙ k.so_far
-
-  pub keeping_full : {r : ℕ} {cands : List Near} {out : List ℕ} {i len : ℕ} → IsKeeping r cands out i len → len ≡ r → take len out ≡ ids_of (kept beside r cands)
-  keeping_full {r} {cands} {out} {i} {len} k full =
-      let none : r - len ≡ 0 = omega arith in
-      sym (ap (λ n. take len out ++ to_come n (take len out) (drop i cands)) none ∙ append-nil (take len out)) ∙ k.so_far

@@ -1,4 +1,3 @@
 pub mod Keeping
 pub mod Sorting
 pub mod Laws
-pub mod Worked

@@ -1,13 +1,13 @@
 -- The nearest of a point's candidates.
 use Rattle.std.specs.Prelude.{not, ◌==◌, ◌≡◌, ◌≢◌, ℕ, ◌<◌, ◌≤◌, List, ◌∷◌, [], length, take, zero, suc}
 use Rattle.std.specs.List.{All}
-use Rattle.std.proofs.Common.{ap, sym, subst, ◌∙◌, arith}
+use Rattle.std.proofs.Common.{ap, subst, ◌∙◌, arith}
 use Rattle.std.proofs.lemmas.Bool.{eqb-false, not-true}
-use Rattle.std.proofs.lemmas.List.{length-map, length-take-le}
+use Rattle.std.proofs.lemmas.List.{length-map}
 use Rattle.ann_defs.specs.declared.near.Near.{Near}
 use Rattle.ann_defs.specs.Distance.{point}
 use Rattle.ann_defs.specs.Nearness.{near_cmp, near_of, all_near, ids_of, least}
-use Rattle.ann_defs.specs.Ordered.{ordered, Has, Rises, IsBelow}
+use Rattle.ann_defs.specs.Ordered.{ordered, Has}
 use Rattle.ann_defs.specs.Graph.{without, IsGoodRow}
 use Rattle.ann_defs.specs.Laws.{AreAlike}
 use Rattle.ann_defs.proofs.Alike.{least_alike}

@@ -2,15 +2,13 @@
 //!
 //! DiskANN, Algorithm 2 (Subramanya and others, NeurIPS 2019): take the nearest candidate, remove those that it covers,
 //! and go on with the rest until the row is full. With a factor of 1 it is also the neighbour selection heuristic of
-//! HNSW, Algorithm 4. `prune` works in the caller's memory: it takes none, refuses nothing, and its result depends on
+//! HNSW, Algorithm 4. `prune` works in the caller's memory: it takes none, can't fail, and its result depends on
 //! the set of candidates alone.
 #![tactic(auto)]
 
 mod nearest;
 mod pruning;
 mod robust;
-#[cfg(test)]
-mod tests;
 
 pub use ann_defs::Alpha;
 pub use nearest::NearestPrune;

@@ -44,7 +44,7 @@ impl<'p> Pruning for NearestPrune<'p> {
     ghost alike = { λ s p xs ys same. nearest_alike s.points.now.vectors p s.degree xs ys same };
 }
 
-// Copies the first ids, at most `count`, to the front of `out`. The answer is how many that is.
+// Copies the first ids, at most `count`, to the front of `out`. Returns how many that is.
 fn copy_first(cands: &[Near], count: u32, out: &mut [u32]) -> usize
     requires { count ≤ length out.old }
     ensures ids { take result out.new ≡ ids_of (take count cands.now) }

@@ -31,10 +31,10 @@ pub trait Pruning: Sync {
     fn degree(&self) -> u32
         ensures { result ≡ most self.now };
 
-    /// Writes the row of point `p` to the front of `out`, and answers how many ids it has.
+    /// Writes the row of point `p` to the front of `out`, and returns how many ids it has.
     ///
     /// The candidates may come in any order, each with its squared distance to `p`, and are put in another one. It
-    /// refuses nothing. Behind the row `out` stays as it was.
+    /// can't fail. Behind the row `out` stays as it was.
     fn prune(&self, p: u32, cands: &mut [Near], out: &mut [u32]) -> usize
         requires p { p < length (vectors self.now) }
         requires cands { AreCandidates (vectors self.now) p cands.old }

@@ -50,15 +50,14 @@ impl<'p> Pruning for RobustPrune<'p> {
     ghost alike = { λ s p xs ys same. prune_alike s.points.now.vectors p xs ys s.alpha.num s.alpha.den s.degree same };
 }
 
-/// Writes the row of point `p` to the front of `out`, nearest first, and answers how many ids it has.
+/// Writes the row of point `p` to the front of `out`, nearest first, and returns how many ids it has.
 ///
 /// The candidates may come in any order, each with its squared distance to `p`, and are put in another one. Of those
-/// that are left the nearest is kept (of two as near the one of smaller id), and every other one is removed whose
-/// squared distance to the kept one, times `num`, is at most `den` times that to `p`. This goes on until `degree` ids
-/// are kept or no candidate is left. It is DiskANN, Algorithm 2, where the factor on squared distances is the square of
-/// the paper's.
+/// that are left the nearest is kept (ties go to the smaller id), and every other one is removed whose squared distance
+/// to the kept one, times `num`, is at most `den` times that to `p`. This goes on until `degree` ids are kept or no
+/// candidate is left. It is DiskANN, Algorithm 2, where the factor on squared distances is the square of the paper's.
 ///
-/// It refuses nothing and takes no memory. Behind the row `out` stays as it was. Its cost is at most `degree` distances
+/// It can't fail and takes no memory. Behind the row `out` stays as it was. Its cost is at most `degree` distances
 /// for each candidate, after a sort.
 pub fn prune(
     points: &Points,

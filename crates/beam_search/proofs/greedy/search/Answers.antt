@@ -1,41 +1,46 @@
-use Rattle.std.proofs.Common.{◌≤◌, length, sym, subst}
+use Rattle.std.proofs.Common.{◌≡◌, ◌≤◌, ◌∙◌, length, sym, ap, subst}
+use Rattle.std.specs.Vec.{with_items}
 use Rattle.ann_defs.specs.Ordered.{Rises}
 use Rattle.ann_defs.specs.Nearness.{near_cmp}
+use Rattle.ann_defs.specs.GreedySearch.{walk_in}
 use Rattle.beam_search.specs.Room.{Room}
 use Rattle.beam_search.specs.Measured.{AreMeasured}
+use Rattle.beam_search.proofs.Lent.{written_is}
 use Rattle.beam_search.proofs.Searched.{visited_measured, visited_few, found_measured, found_rises, found_short}
 use Rattle.beam_search.proofs.greedy.search.Goals as goal
 
+pub returns-clause-walk : goal.returns-clause-walk
+returns-clause-walk g c =
+    let found = with_items c.scratch.inside.found c.walk_all-found_len.new.found in
+    let visited = with_items c.scratch.inside.visited c.walk_all-found_len.new.visited in
+    let beam : length found.items ≡ c.args.scratch.now.beam = sym found.ok.0 ∙ c.scratch.inside.found.ok.0 ∙ ap (λ (r : Room). r.beam) c.scratch.view_is in
+    let count : length visited.items ≡ c.args.scratch.now.count = sym visited.ok.0 ∙ c.scratch.inside.visited.ok.0 ∙ ap (λ (r : Room). r.count) c.scratch.view_is in
+    let found_is : found.items ≡ c.walk_all-found_len.new.found = written_is c.scratch.inside.found.len c.walk_all-found_len.new.found c.scratch.inside.found.items (c.walk_all-found_len.auto.found ∙ c.deref_mut-2.ensures.len) in
+    let visited_is : visited.items ≡ c.walk_all-found_len.new.visited = written_is c.scratch.inside.visited.len c.walk_all-found_len.new.visited c.scratch.inside.visited.items (c.walk_all-found_len.auto.visited ∙ c.deref_mut-3.ensures.len) in
+    let last = (λ i. walk_in (found_is i) c.walk_all-found_len.result.0 (visited_is i) c.walk_all-found_len.result.1) ∙ c.walk_all-found_len.ensures.walk in
+    λ i. record { count = count i; beam = beam i; last = last i }
+
 pub returns-clause-visited : goal.returns-clause-visited
 returns-clause-visited g c =
-    let points = c.args.points.now.vectors in
-    let held = g.R.Rows.held c.args.graph.now in
-    subst (λ (r : Room). AreMeasured points c.args.query.now held r.last.visited) (sym c.walk_graph.ensures)
-    (visited_measured points (g.R.Rows.row_of c.args.graph.now) c.args.query.now c.args.beam held c.requires.graph c.args.starts.now c.requires.starts)
+    subst (λ (r : Room). AreMeasured c.args.points.now.vectors c.args.query.now (g.R.Rows.held c.args.graph.now) r.last.visited) (sym (returns-clause-walk g c))
+    (visited_measured c.args.points.now.vectors (g.R.Rows.row_of c.args.graph.now) c.args.query.now c.args.beam (g.R.Rows.held c.args.graph.now) c.requires.graph c.args.starts.now c.requires.starts)
 
 pub returns-clause-few : goal.returns-clause-few
 returns-clause-few g c =
-    let points = c.args.points.now.vectors in
-    let held = g.R.Rows.held c.args.graph.now in
-    subst (λ (r : Room). length r.last.visited ≤ length points) (sym c.walk_graph.ensures)
-    (visited_few points (g.R.Rows.row_of c.args.graph.now) c.args.query.now c.args.beam held c.requires.graph c.args.starts.now c.requires.starts)
+    subst (λ (r : Room). length r.last.visited ≤ length c.args.points.now.vectors) (sym (returns-clause-walk g c))
+    (visited_few c.args.points.now.vectors (g.R.Rows.row_of c.args.graph.now) c.args.query.now c.args.beam (g.R.Rows.held c.args.graph.now) c.requires.graph c.args.starts.now c.requires.starts)
 
 pub returns-clause-found : goal.returns-clause-found
 returns-clause-found g c =
-    let points = c.args.points.now.vectors in
-    let held = g.R.Rows.held c.args.graph.now in
-    subst (λ (r : Room). AreMeasured points c.args.query.now held r.last.found) (sym c.walk_graph.ensures)
-    (found_measured points (g.R.Rows.row_of c.args.graph.now) c.args.query.now c.args.beam held c.requires.graph c.args.starts.now c.requires.starts)
+    subst (λ (r : Room). AreMeasured c.args.points.now.vectors c.args.query.now (g.R.Rows.held c.args.graph.now) r.last.found) (sym (returns-clause-walk g c))
+    (found_measured c.args.points.now.vectors (g.R.Rows.row_of c.args.graph.now) c.args.query.now c.args.beam (g.R.Rows.held c.args.graph.now) c.requires.graph c.args.starts.now c.requires.starts)
 
 pub returns-clause-rises : goal.returns-clause-rises
 returns-clause-rises g c =
-    let points = c.args.points.now.vectors in
-    let held = g.R.Rows.held c.args.graph.now in
-    subst (λ (r : Room). Rises near_cmp r.last.found) (sym c.walk_graph.ensures)
-    (found_rises points (g.R.Rows.row_of c.args.graph.now) c.args.query.now c.args.beam held c.requires.graph c.args.starts.now c.requires.starts)
+    subst (λ (r : Room). Rises near_cmp r.last.found) (sym (returns-clause-walk g c))
+    (found_rises c.args.points.now.vectors (g.R.Rows.row_of c.args.graph.now) c.args.query.now c.args.beam (g.R.Rows.held c.args.graph.now) c.requires.graph c.args.starts.now c.requires.starts)
 
 pub returns-clause-short : goal.returns-clause-short
 returns-clause-short g c =
-    let points = c.args.points.now.vectors in
-    subst (λ (r : Room). length r.last.found ≤ c.args.beam) (sym c.walk_graph.ensures)
-    (found_short points (g.R.Rows.row_of c.args.graph.now) c.args.query.now c.args.beam c.args.starts.now)
+    subst (λ (r : Room). length r.last.found ≤ c.args.beam) (sym (returns-clause-walk g c))
+    (found_short c.args.points.now.vectors (g.R.Rows.row_of c.args.graph.now) c.args.query.now c.args.beam c.args.starts.now)

@@ -1,14 +1,11 @@
-use Rattle.std.proofs.Common.{◌≡◌, ◌+◌, ◌<◌, ◌∙◌, ap, sym, subst, ℕ, take, set, length, get_or, arith, length-set, []}
-use Rattle.std.specs.List.{All, fold}
-use Rattle.std.proofs.lemmas.List.{length-take-le, get_or-take}
-use Rattle.ann_defs.specs.declared.near.Near.{Near}
-use Rattle.ann_defs.specs.Ordered.{put}
-use Rattle.ann_defs.specs.Nearness.{near_cmp, all_near}
+use Rattle.std.proofs.Common.{◌≡◌, ◌+◌, ◌<◌, sym, subst, ℕ, take, set, length, get_or, arith, length-set, []}
+use Rattle.std.specs.List.{All}
+use Rattle.std.proofs.lemmas.List.{length-take-le}
 use Rattle.ann_defs.specs.GreedySearch.{Walk, walk_in, start_of}
 use Rattle.ann_defs.proofs.SearchStates.{IsWalking, walking_none, walking_all}
 use Rattle.near_lists.specs.Marks.{AreVisited}
 use Rattle.beam_search.proofs.Cursor.{IsCursor, cursor_none, cursor_more, next_none, visited_none, visited_marked, visited_seen, up_to_first, up_to_marked, up_to_seen}
-use Rattle.beam_search.proofs.Stepping.{p_held, p_below, count_room, row_below, settled_p, visited_p, walking_next, ids_next}
+use Rattle.beam_search.proofs.Stepping.{p_held, p_below, count_room, row_below, settled_p, visited_p, walking_next, ids_next, ids_left}
 use Rattle.beam_search.proofs.walk.walk_all.Goals as goal
 
 pub loop-next-init : goal.loop-next-init
@@ -54,20 +51,9 @@ bounds-visited-count g c =
     omega arith
 
 pub first_left-next-requires-clause-ids : goal.first_left-next-requires-clause-ids
-first_left-next-requires-clause-ids g c k d lt =
-    let points = c.args.points.now.vectors in
-    let row = g.R.Rows.row_of c.args.graph.now in
-    let p = get_or c.loop-next.found c.loop-next.next (record { dist = 0; id = 0 }) in
-    let found' = c.offer_unseen-kept-in-loop-next.new.list in
-    let len' = c.offer_unseen-kept-in-loop-next.result.0 in
-    let long : length (take len' found') ≡ len' = length-take-le len' found' (omega arith) in
-    let offered : take len' found' ≡ take c.args.beam (fold (put near_cmp) (take c.loop-next.len c.loop-next.found) (all_near points c.args.query.now (row p.id))) =
-    c.offer_unseen-kept-in-loop-next.ensures.list ∙ ap (λ ids. take c.args.beam (fold (put near_cmp) (take c.loop-next.len c.loop-next.found) (all_near points c.args.query.now ids))) c.row-row.ensures in
-    let below = ids_next points row c.args.query.now c.args.beam (g.R.Rows.held c.args.graph.now) c.requires.graph _ c.loop-next.found c.loop-next.len c.loop-next.visited c.loop-next.count c.loop-next.next c.loop-next.invariant.walking c.loop-next.invariant.cursor (omega arith) c.loop-next-test.true
-    found' len' offered (omega arith) (omega arith) k d (omega arith) in
-    let marks_long : length c.offer_unseen-kept-in-loop-next.new.marks ≡ length points = omega (arith, length-set {A = ℕ}) in
-    subst (λ m. (get_or (take len' found') k d).id < m) (sym marks_long)
-    (subst (λ (x : Near). x.id < length points) (sym (get_or-take len' found' k d (omega arith))) below)
+first_left-next-requires-clause-ids g c =
+    ids_left c.args.points.now.vectors (g.R.Rows.row_of c.args.graph.now) c.args.query.now c.args.beam (g.R.Rows.held c.args.graph.now) c.requires.graph _ c.loop-next.found c.loop-next.len c.loop-next.visited c.loop-next.count c.loop-next.next c.loop-next.invariant.walking c.loop-next.invariant.cursor (omega arith) c.loop-next-test.true
+    c.offer_unseen-kept-in-loop-next.new.list c.offer_unseen-kept-in-loop-next.result.0 c.row-row.result.now c.row-row.ensures c.offer_unseen-kept-in-loop-next.ensures.list (omega arith) (omega arith) c.offer_unseen-kept-in-loop-next.new.marks (omega (arith, length-set {A = ℕ}))
 
 pub loop-next-smaller : goal.loop-next-smaller
 loop-next-smaller g c =
@@ -76,41 +62,33 @@ loop-next-smaller g c =
 
 pub loop-next-preserved : goal.loop-next-preserved
 loop-next-preserved g c =
-    let points = c.args.points.now.vectors in
-    let row = g.R.Rows.row_of c.args.graph.now in
-    let held = g.R.Rows.held c.args.graph.now in
-    let query = c.args.query.now in
-    let beam = c.args.beam in
+    let n = length c.args.points.now.vectors in
     let seen = c.args.seen in
-    let found = c.loop-next.found in
-    let visited = c.loop-next.visited in
-    let count = c.loop-next.count in
-    let next = c.loop-next.next in
-    let p = get_or found next (record { dist = 0; id = 0 }) in
-    let found' = c.offer_unseen-kept-in-loop-next.new.list in
-    let len' = c.offer_unseen-kept-in-loop-next.result.0 in
-    let first = c.offer_unseen-kept-in-loop-next.result.1 in
+    let visited = take c.loop-next.count c.loop-next.visited in
+    let p = get_or c.loop-next.found c.loop-next.next (record { dist = 0; id = 0 }) in
+    let found = c.offer_unseen-kept-in-loop-next.new.list in
+    let len = c.offer_unseen-kept-in-loop-next.result.0 in
     let marked = set c.loop-next.marks p.id (seen + 1) in
-    let marks' = c.offer_unseen-kept-in-loop-next.new.marks in
+    let marks = c.offer_unseen-kept-in-loop-next.new.marks in
     let only = c.offer_unseen-kept-in-loop-next.ensures.marks in
-    let offered : take len' found' ≡ take beam (fold (put near_cmp) (take c.loop-next.len found) (all_near points query (row p.id))) =
-    c.offer_unseen-kept-in-loop-next.ensures.list ∙ ap (λ ids. take beam (fold (put near_cmp) (take c.loop-next.len found) (all_near points query ids))) c.row-row.ensures in
-    let below = p_below points row query beam held c.requires.graph _ found c.loop-next.len visited count next c.loop-next.invariant.walking c.loop-next.invariant.cursor (omega arith) c.loop-next-test.true in
-    let room = count_room points row query beam held c.requires.graph _ found c.loop-next.len visited count next c.loop-next.invariant.walking c.loop-next.invariant.cursor (omega arith) c.loop-next-test.true in
-    let more = visited_p points row query beam held c.requires.graph _ found c.loop-next.len visited count next c.loop-next.invariant.walking c.loop-next.invariant.cursor (omega arith) c.loop-next-test.true (omega arith) in
-    let visited_now = visited_seen (length points) seen _ marked marks' only (visited_marked (length points) seen c.loop-next.marks p (omega arith) below (take count visited) c.loop-next.invariant.marks) in
-    let ids = ids_next points row query beam held c.requires.graph _ found c.loop-next.len visited count next c.loop-next.invariant.walking c.loop-next.invariant.cursor (omega arith) c.loop-next-test.true found' len' offered (omega arith) (omega arith) in
-    let long : length (take len' found') ≡ len' = length-take-le len' found' (omega arith) in
+    let below = p_below c.args.points.now.vectors (g.R.Rows.row_of c.args.graph.now) c.args.query.now c.args.beam (g.R.Rows.held c.args.graph.now) c.requires.graph _ c.loop-next.found c.loop-next.len c.loop-next.visited c.loop-next.count c.loop-next.next c.loop-next.invariant.walking c.loop-next.invariant.cursor (omega arith) c.loop-next-test.true in
+    let room = count_room c.args.points.now.vectors (g.R.Rows.row_of c.args.graph.now) c.args.query.now c.args.beam (g.R.Rows.held c.args.graph.now) c.requires.graph _ c.loop-next.found c.loop-next.len c.loop-next.visited c.loop-next.count c.loop-next.next c.loop-next.invariant.walking c.loop-next.invariant.cursor (omega arith) c.loop-next-test.true in
+    let more = visited_p c.args.points.now.vectors (g.R.Rows.row_of c.args.graph.now) c.args.query.now c.args.beam (g.R.Rows.held c.args.graph.now) c.requires.graph _ c.loop-next.found c.loop-next.len c.loop-next.visited c.loop-next.count c.loop-next.next c.loop-next.invariant.walking c.loop-next.invariant.cursor (omega arith) c.loop-next-test.true (omega arith) in
+    let visited_now = visited_seen n seen _ marked marks only (visited_marked n seen c.loop-next.marks p (omega arith) below visited c.loop-next.invariant.marks) in
+    let ids = ids_next c.args.points.now.vectors (g.R.Rows.row_of c.args.graph.now) c.args.query.now c.args.beam (g.R.Rows.held c.args.graph.now) c.requires.graph _ c.loop-next.found c.loop-next.len c.loop-next.visited c.loop-next.count c.loop-next.next c.loop-next.invariant.walking c.loop-next.invariant.cursor (omega arith) c.loop-next-test.true
+    c.offer_unseen-kept-in-loop-next.new.list c.offer_unseen-kept-in-loop-next.result.0 c.row-row.result.now c.row-row.ensures c.offer_unseen-kept-in-loop-next.ensures.list (omega arith) (omega arith) in
+    let long : length (take len found) ≡ len = length-take-le len found (omega arith) in
     let range = c.first_left-next.ensures.range in
     record {
-      walking = walking_next points row query beam held c.requires.graph _ found c.loop-next.len visited count next c.loop-next.invariant.walking c.loop-next.invariant.cursor (omega arith) c.loop-next-test.true found' len' offered (omega arith) (omega arith);
+      walking = walking_next c.args.points.now.vectors (g.R.Rows.row_of c.args.graph.now) c.args.query.now c.args.beam (g.R.Rows.held c.args.graph.now) c.requires.graph _ c.loop-next.found c.loop-next.len c.loop-next.visited c.loop-next.count c.loop-next.next c.loop-next.invariant.walking c.loop-next.invariant.cursor (omega arith) c.loop-next-test.true
+          c.offer_unseen-kept-in-loop-next.new.list c.offer_unseen-kept-in-loop-next.result.0 c.row-row.result.now c.row-row.ensures c.offer_unseen-kept-in-loop-next.ensures.list (omega arith) (omega arith);
       found = c.offer_unseen-kept-in-loop-next.ensures.bound;
       visited = omega arith;
       settled = c.offer_unseen-kept-in-loop-next.ensures.settled;
-      marks = subst (λ xs. AreVisited (length points) (seen + 1) xs marks') (sym more) visited_now;
-      up_to = up_to_seen seen marked marks' (up_to_marked (length points) seen c.loop-next.marks p (omega arith) below c.loop-next.invariant.up_to) only;
-      cursor = subst (λ xs. IsCursor found' len' xs c.first_left-next.result) (sym more)
-          (cursor_more (length points) (seen + 1) found found' c.loop-next.len len' (take count visited) next first c.min.result c.first_left-next.result marks'
+      marks = subst (λ xs. AreVisited n (seen + 1) xs marks) (sym more) visited_now;
+      up_to = up_to_seen seen marked marks (up_to_marked n seen c.loop-next.marks p (omega arith) below c.loop-next.invariant.up_to) only;
+      cursor = subst (λ xs. IsCursor found len xs c.first_left-next.result) (sym more)
+          (cursor_more n (seen + 1) c.loop-next.found found c.loop-next.len len visited c.loop-next.next c.offer_unseen-kept-in-loop-next.result.1 c.min.result c.first_left-next.result marks
           c.loop-next.invariant.cursor c.loop-next-test.true c.offer_unseen-kept-in-loop-next.ensures.front c.min.ensures visited_now ids (omega arith) (omega arith)
           (omega (arith, range.1)) c.first_left-next.ensures.before (λ less. c.first_left-next.ensures.here (omega arith)));
     }

@@ -1,4 +1,4 @@
-use Rattle.std.proofs.Common.{◌≡◌, ◌∙◌, ap, sym, subst, take, length, List}
+use Rattle.std.proofs.Common.{◌∙◌, ap, sym, subst, take, length, List}
 use Rattle.ann_defs.specs.declared.near.Near.{Near}
 use Rattle.ann_defs.specs.Nearness.{ids_of}
 use Rattle.ann_defs.specs.Graph.{IsGoodRow}
