@@ -33,13 +33,6 @@ length-cells d (x ∷ X) each = omega (arith, length-append x (cells X), length-
 lt_32 : (n limit : ℕ) → n ≤ limit → limit < 2 ^ 32 → n < 2 ^ 32
 lt_32 n limit le lt = omega arith
 
--- the numbers in the header of a text
-count_in : (X : PointSet) → ArePoints X.vectors → u32_at (text X) 0 ≡ length X.vectors
-count_in X are = from_le_bytes-to_le_bytes_4 (length X.vectors) (lt_32 (length X.vectors) MAX_POINTS are.limits.count (lit< tt))
-
-dim_in : (X : PointSet) → ArePoints X.vectors → u32_at (text X) 4 ≡ dim_of X.vectors
-dim_in X are = from_le_bytes-to_le_bytes_4 (dim_of X.vectors) (lt_32 (dim_of X.vectors) MAX_DIM are.limits.dim (lit< tt))
-
 pub header_sound : (n d : ℕ) → AreLimits n d → header_verdict n d ≡ None
 header_sound n d limits =
     let some = limits.some in
@@ -49,36 +42,43 @@ header_sound n d limits =
     let fit = limits.fit in
     grind (arith, nat_tests)
 
-pub text_verdict : (X : PointSet) → ArePoints X.vectors → verdict (text X) ≡ None
-text_verdict X are =
-    let n = length X.vectors in
-    let d = dim_of X.vectors in
-    let body = file_bytes X.element (cells X.vectors) in
-    let count = count_in X are in
-    let dim = dim_in X are in
-    verdict_long (text X) (omega arith)
-    ∙ ap (λ h. or_else h (body_verdict (length body) (u32_at (text X) 0 * u32_at (text X) 4)))
-    (ap (λ m. header_verdict m (u32_at (text X) 4)) count ∙ ap (header_verdict n) dim ∙ header_sound n d are.limits)
-    ∙ body_sound (length body) (u32_at (text X) 0 * u32_at (text X) 4)
-    (length-file_bytes X.element (cells X.vectors) ∙ length-cells d X.vectors are.each ∙ sym (ap (λ m. m * u32_at (text X) 4) count ∙ ap (λ m. n * m) dim))
-
 cells_below : (X : List (List ℕ)) → AllByRecursion (AllByRecursion (λ b. b < 256)) X → AreBytes (cells X)
 cells_below [] all i = lit< tt
 cells_below ([] ∷ X) all i = cells_below X all.1 i
 cells_below ((b ∷ x) ∷ X) all zero = all.0.0
 cells_below ((b ∷ x) ∷ X) all (suc i) = cells_below (x ∷ X) (all.0.1, all.1) i
 
-pub text_points : (X : PointSet) → ArePoints X.vectors → points_of X.element (text X) ≡ X
-text_points X are =
-    let n = length X.vectors in
-    let d = dim_of X.vectors in
-    let body = file_bytes X.element (cells X.vectors) in
-    let count = count_in X are in
-    let dim = dim_in X are in
-    let vectors : rows (u32_at (text X) 0) (u32_at (text X) 4) (file_bytes X.element body) ≡ X.vectors =
-    ap (λ m. rows m (u32_at (text X) 4) (file_bytes X.element body)) count ∙ ap (λ m. rows n m (file_bytes X.element body)) dim
-    ∙ ap (rows n d) (file_bytes_twice X.element (cells X.vectors) (cells_below X.vectors are.bytes)) ∙ rows-cells d X.vectors are.each in
-    ap (λ v. record { element = X.element; vectors = v }) vectors
+module _ (X : PointSet) (are : ArePoints X.vectors) where
+  abbrev n : ℕ
+  n = length X.vectors
+
+  abbrev d : ℕ
+  d = dim_of X.vectors
+
+  abbrev body : List ℕ
+  body = file_bytes X.element (cells X.vectors)
+
+  -- the numbers in the header of the text
+  count_in : u32_at (text X) 0 ≡ n
+  count_in = from_le_bytes-to_le_bytes_4 n (lt_32 n MAX_POINTS are.limits.count (lit< tt))
+
+  dim_in : u32_at (text X) 4 ≡ d
+  dim_in = from_le_bytes-to_le_bytes_4 d (lt_32 d MAX_DIM are.limits.dim (lit< tt))
+
+  pub text_verdict : verdict (text X) ≡ None
+  text_verdict =
+      verdict_long (text X) (omega arith)
+      ∙ ap (λ h. or_else h (body_verdict (length body) (u32_at (text X) 0 * u32_at (text X) 4)))
+      (ap (λ m. header_verdict m (u32_at (text X) 4)) count_in ∙ ap (header_verdict n) dim_in ∙ header_sound n d are.limits)
+      ∙ body_sound (length body) (u32_at (text X) 0 * u32_at (text X) 4)
+      (length-file_bytes X.element (cells X.vectors) ∙ length-cells d X.vectors are.each ∙ sym (ap (λ m. m * u32_at (text X) 4) count_in ∙ ap (λ m. n * m) dim_in))
+
+  pub text_points : points_of X.element (text X) ≡ X
+  text_points =
+      let vectors : rows (u32_at (text X) 0) (u32_at (text X) 4) (file_bytes X.element body) ≡ X.vectors =
+      ap (λ m. rows m (u32_at (text X) 4) (file_bytes X.element body)) count_in ∙ ap (λ m. rows n m (file_bytes X.element body)) dim_in
+      ∙ ap (rows n d) (file_bytes_twice X.element (cells X.vectors) (cells_below X.vectors are.bytes)) ∙ rows-cells d X.vectors are.each in
+      ap (λ v. record { element = X.element; vectors = v }) vectors
 
 pub text_only : (X Y : PointSet) → ArePoints X.vectors → ArePoints Y.vectors → X.element ≡ Y.element → text X ≡ text Y → X ≡ Y
 text_only X Y x y element same = sym (text_points X x) ∙ ap (points_of X.element) same ∙ ap (λ e. points_of e (text Y)) element ∙ text_points Y y

@@ -1,5 +1,5 @@
 -- Parts of equal length.
-use Rattle.std.proofs.Common.{◌≡◌, ℕ, ◌+◌, ◌*◌, ◌<◌, ◌≤◌, List, [], length, arith, length-take, length-drop}
+use Rattle.std.proofs.Common.{◌≡◌, ℕ, ◌+◌, ◌*◌, ◌<◌, ◌≤◌, List, [], length, arith}
 use Rattle.std.specs.Prelude.{slice_range}
 use Rattle.std.proofs.Math.Nat.{mul-le-mul_right}
 use Rattle.std.proofs.lemmas.List.FromFn.{length-map-range_with_len, get_or-map-range_with_len}
@@ -14,6 +14,3 @@ point-rows n d bytes i h = get_or-map-range_with_len (λ i. slice_range bytes (i
 
 pub ends_within : (n d : ℕ) (bytes : List ℕ) (i : ℕ) → i < n → length bytes ≡ n * d → i * d + d ≤ length bytes
 ends_within n d bytes i h e = let more : (i + 1) * d ≤ n * d = grind (arith, mul-le-mul_right) in omega arith
-
-pub length-point : (n d : ℕ) (bytes : List ℕ) (i : ℕ) → i < n → length bytes ≡ n * d → length (slice_range bytes (i * d) (i * d + d)) ≡ d
-length-point n d bytes i h e = let within = ends_within n d bytes i h e in simp (length-take, length-drop) (omega arith)

@@ -6,8 +6,8 @@ ghost use Rattle.ann_defs.specs.Distance.{squared_gap, dist_of};
 use ann_defs::MAX_DIM;
 use std::simd::prelude::*;
 
-/// The sum over as many whole chunks of N bytes as there are from `from` on. The answers are the sum and the place of
-/// the first byte that isn't taken in.
+/// The sum over as many whole chunks of N bytes as there are from `from` on. Returns the sum and the place of the first
+/// byte that isn't taken in.
 ///
 /// N is a power of two, at most 64.
 pub fn by_lanes<const N: usize>(a: &[u8], b: &[u8], from: usize) -> (u32, usize)

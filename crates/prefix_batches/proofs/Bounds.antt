@@ -1,6 +1,6 @@
 -- The bounds of batches rise to the number of points and stay there.
-use Rattle.std.proofs.Common.{◌≡◌, ℕ, zero, suc, ◌+◌, ◌-◌, ◌<◌, ◌≤◌, Bool, true, false, List, inl, inr, refl, sym, ap, ◌∙◌, arith, add-one, length, get_or}
-use Rattle.std.specs.Prelude.{◌==◌, min}
+use Rattle.std.proofs.Common.{◌≡◌, ℕ, zero, suc, ◌+◌, ◌-◌, ◌<◌, ◌≤◌, Bool, true, false, List, inl, inr, refl, sym, ap, ◌∙◌, arith, length, get_or}
+use Rattle.std.specs.Prelude.{◌==◌}
 use Rattle.std.specs.List.{range_with_len}
 use Rattle.std.proofs.lemmas.Bool.{cases_lt, eqb-true, eq-eqb, true≢false}
 use Rattle.std.proofs.lemmas.List.Sums.{fails_before_first, passes_at_first}
@@ -8,11 +8,6 @@ use Rattle.std.proofs.lemmas.List.FromFn.{get_or-range_with_len, length-range_wi
 use Rattle.ann_defs.specs.BatchInsert.{bound_at, total_of}
 
 module _ (n cap : ℕ) where
-  -- the bound after one that isn't 0
-  bound_grows : (k : ℕ) → 1 ≤ k → bound_at n cap (suc k) ≡ min n (bound_at n cap k + min (bound_at n cap k) cap)
-  bound_grows zero h = absurd (omega arith)
-  bound_grows (suc k) h = refl
-
   pub bound_within : (k : ℕ) → 1 ≤ n → bound_at n cap k ≤ n
   bound_within zero some = omega arith
   bound_within (suc zero) some = omega arith
@@ -44,10 +39,6 @@ module _ (n cap : ℕ) where
   pub bound_first : (k b : ℕ) → 1 ≤ n → b ≡ 0 → b ≡ bound_at n cap k → 1 ≡ bound_at n cap (k + 1)
   bound_first zero b some none e = refl
   bound_first (suc k) b some none e = let here : 1 ≤ bound_at n cap (suc k) = bound_some (suc k) some (omega arith) in absurd (omega arith)
-
-  pub bound_more : (k b : ℕ) → 1 ≤ n → 1 ≤ b → b ≡ bound_at n cap k → min n (b + min b cap) ≡ bound_at n cap (k + 1)
-  bound_more zero b some h e = absurd (omega arith)
-  bound_more (suc k) b some h e = rw add-one (ap (λ x. min n (x + min x cap)) e)
 
   -- whether bound k is n
   abbrev ends : ℕ → Bool

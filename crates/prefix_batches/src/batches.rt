@@ -53,7 +53,7 @@ impl Batches {
         }
     }
 
-    /// The bounds of the next batch, or none where all points are in a batch already.
+    /// The bounds of the next batch, or `None` if all points are in a batch already.
     pub fn next(&mut self) -> Option<(u32, u32)>
         ensures counted { IsSome result ↔ (self.old.done < total_of self.old.n self.old.cap) }
         ensures ended { IsNone result ↔ (bound_at self.old.n self.old.cap self.old.done ≡ self.old.n) }

@@ -1,5 +1,5 @@
 -- The generator after some words.
-use Rattle.std.proofs.Common.{◌≡◌, ℕ, zero, suc, ◌+◌, List, [], ◌∷◌, ◌++◌, map, refl, sym, ap, ◌∙◌, add-one}
+use Rattle.std.proofs.Common.{◌≡◌, ℕ, zero, suc, ◌+◌, List, [], ◌∷◌, ◌++◌, map, refl, sym, ap, ◌∙◌, add-one, zero-add}
 use Rattle.std.specs.List.{range_with_len}
 use Rattle.std.proofs.lemmas.List.FromFn.{map-range_with_len_more}
 use Rattle.rand_pcg.specs.Lcg.{Lcg, advance, increment_of, started, state_after}
@@ -37,3 +37,12 @@ next_leads seed stream n w g h e p = ap (λ (q : ℕ × Lcg). q.1) e ∙ ap (λ 
 -- a list of what f gives, with one more
 pub pushed_more : {X : Type 0} (f : ℕ → X) (a n j : ℕ) (old new : List X) (x : X) → a + n ≡ j → old ≡ map f (range_with_len a n) → new ≡ old ++ x ∷ [] → x ≡ f j → new ≡ map f (range_with_len a (n + 1))
 pushed_more f a n j old new x p e push g = push ∙ (λ i. e i ++ g i ∷ []) ∙ sym (map-range_with_len_more f a n j p)
+
+-- a list of what f makes of ids and their words, with one more
+pub drawn_more : {X : Type 0} (seed stream n w : ℕ) (g h : Lcg) (f : ℕ → ℕ → X) (old new : List X) (x : X) → (w, h) ≡ pcg64 g → g ≡ after (generator seed stream) n
+    → old ≡ map (λ id. f id (word_of seed stream id)) (range_with_len 0 n) → new ≡ old ++ x ∷ [] → x ≡ f n w
+    → (h ≡ after (generator seed stream) (n + 1)) × (new ≡ map (λ id. f id (word_of seed stream id)) (range_with_len 0 (n + 1)))
+drawn_more seed stream n w g h f old new x e p are push is = (
+  next_leads seed stream n w g h e p,
+  pushed_more (λ id. f id (word_of seed stream id)) 0 n n old new x (zero-add n) are push (is ∙ ap (f n) (next_is seed stream n w g h e p)),
+)

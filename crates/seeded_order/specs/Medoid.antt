@@ -14,7 +14,7 @@ column_sum points j = sum_by (λ x. slice_index x j) points
 abbrev pub spread : List (List ℕ) → ℕ → ℕ
 spread points u = sum_by (λ j. squared_gap (length points * slice_index (point points u) j) (column_sum points j)) (range_with_len 0 (dim_of points))
 
--- the lesser spread first, and of two as great the smaller id
+-- the lesser spread first; ties go to the smaller id
 abbrev pub spread_cmp : List (List ℕ) → ℕ → ℕ → Ordering
 spread_cmp points a b = ordering_then (nat_cmp (spread points a) (spread points b)) (nat_cmp a b)
 

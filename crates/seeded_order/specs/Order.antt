@@ -16,7 +16,7 @@ use Rattle.seeded_order.specs.Medoid.{medoid_of}
 abbrev pub file_order_of : ℕ → List ℕ
 file_order_of n = range_with_len 0 n
 
--- by the words of stream 1, and of two equal words the smaller id first
+-- by the words of stream 1; ties go to the smaller id
 abbrev pub word_cmp : ℕ → ℕ → ℕ → Ordering
 word_cmp seed a b = ordering_then (nat_cmp (word_of seed 1 a) (word_of seed 1 b)) (nat_cmp a b)
 

@@ -60,8 +60,8 @@ fn spread_of(sums: &[u64], point: &[u8], n: u32) -> u128
     total
 }
 
-/// The point with the least squared distance to the centroid, and of two as near the smaller id: where DiskANN starts
-/// its searches.
+/// The point with the least squared distance to the centroid, where DiskANN starts its searches. Ties go to the smaller
+/// id.
 ///
 /// The distances are taken times the square of the count, in whole numbers of at most 71 bits, so nothing is rounded.
 /// Two passes over the points. Memory: eight bytes for each column.

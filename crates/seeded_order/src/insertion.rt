@@ -50,7 +50,7 @@ fn ids_in(alloc: Global, keys: &[(u64, u32)]) -> Result<Vec<u32>, NoMemory>
     Ok(ids)
 }
 
-/// All ids below n by their words of stream 1, and of two equal words the smaller id first.
+/// All ids below n by their words of stream 1. Ties go to the smaller id.
 ///
 /// It stands for the random permutation in which DiskANN (Algorithm 3) inserts its points, and the seed alone decides
 /// it. Memory: twenty bytes for each id, of which four are kept.
@@ -94,7 +94,7 @@ fn ids_by(alloc: Global, n: u32, kind: OrderKind, seed: u64) -> Result<Vec<u32>,
 
 /// The order in which a build inserts its points. The point at which its searches start comes first.
 ///
-/// After DiskANN, whose searches start at the medoid. After a refusal nothing is left. Memory: that of [`order`], and for
+/// After DiskANN, whose searches start at the medoid. Memory: that of [`order`], and for
 /// the medoid that of [`medoid`].
 pub fn insertion_order_of(
     alloc: Global,
