@@ -17,7 +17,7 @@ use Rattle.vamana_build.specs.VamanaIndex.{vamana_index}
 use Rattle.annbuild_lines.specs.Lines.{built_text}
 use Rattle.annbuild_lines.specs.declared.fault.Fault.TheVariants.{TooLarge}
 use Rattle.annbuild_words.specs.declared.request.Settings.{Settings}
-use Rattle.annbuild_commands.specs.IndexOf.{index_of, file_of, line_of, told_of, kind_at}
+use Rattle.annbuild_commands.specs.IndexOf.{vamana_of, file_of, line_of, told_of, kind_at}
 use Rattle.annbuild_commands.specs.Building.{words_refusal}
 
 pub file_is : (i : Contents) → text_of i ≡ file_of i
@@ -52,9 +52,9 @@ told_line i kind layers edges k l e =
 
 -- the builder's index is the one that a build must give
 pub same_index : (X : List (List ℕ)) (s : VamanaSettings) (o : Settings) → s.order ≡ o.order → s.start ≡ o.start → s.seed ≡ o.seed → s.degree ≡ o.degree → s.beam ≡ o.beam
-    → s.alpha.num ≡ o.num → s.alpha.den ≡ o.den → s.cap ≡ o.cap → vamana_index X s ≡ index_of X o
-unfolding order_of index_of
-same_index X s o a b c d e f g h = λ i. index_of X (record o { order = a i; start = b i; seed = c i; degree = d i; beam = e i; num = f i; den = g i; cap = h i })
+    → s.alpha.num ≡ o.num → s.alpha.den ≡ o.den → s.cap ≡ o.cap → vamana_index X s ≡ vamana_of X o
+unfolding order_of vamana_of
+same_index X s o a b c d e f g h = λ i. vamana_of X (record o { order = a i; start = b i; seed = c i; degree = d i; beam = e i; num = f i; den = g i; cap = h i })
 
 -- the words of the rows against their limit
 pub words_over : (words : ℕ) → MAX_WORDS < words → words_refusal words ≡ Some (TooLarge Words words MAX_WORDS)

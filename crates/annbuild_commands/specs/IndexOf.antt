@@ -10,17 +10,33 @@ use Rattle.annbuild_words.specs.declared.request.Settings.{Settings}
 use Rattle.annbuild_lines.specs.declared.line.BuiltLine.{BuiltLine}
 use Rattle.annbuild_lines.specs.Lines.{built_text}
 
--- the index that a build of a point set with these settings must give: its order, start, seed, degree, beam, alpha and cap decide it
-unfoldable pub index_of : List (List ℕ) → Settings → Contents
-index_of X o =
+-- the Vamana index of a point set: the order, start, seed, degree, beam, alpha and cap of the settings decide it
+unfoldable pub vamana_of : List (List ℕ) → Settings → Contents
+vamana_of X o =
     let ids = insertion_order X o.order o.start o.seed in
     let cap = cap_of (length X) o.cap in
     let b : Build = record { points = X; start = slice_index ids 0; beam = o.beam; num = o.num; den = o.den; degree = o.degree; passes = 1 } in
     flat_contents 1 (length X) (dim_of X) o.degree (slice_index ids 0) (graph_after b ids cap (total_of (length X) cap))
 
--- the words that the rows of so many points take
+-- the index of each kind; the words ask for no other kind yet
+abbrev pub index_by : Kind → List (List ℕ) → Settings → Contents
+index_by kind X o = vamana_of X o
+
+-- the index that a build of a point set with these settings must give
+unfoldable pub index_of : List (List ℕ) → Settings → Contents
+index_of X o = index_by o.kind X o
+
+-- the words that the rows of so many points take in a Vamana index
+abbrev pub vamana_words : ℕ → Settings → ℕ
+vamana_words n o = n * (o.degree + 1)
+
+-- the words in an index of each kind
+abbrev pub words_by : Kind → ℕ → Settings → ℕ
+words_by kind n o = vamana_words n o
+
+-- the words that the rows of the index of so many points take
 abbrev pub words_of : ℕ → Settings → ℕ
-words_of n o = n * (o.degree + 1)
+words_of n o = words_by o.kind n o
 
 -- the kind with this code
 abbrev pub kind_at : ℕ → Kind

@@ -8,13 +8,15 @@
 
 mod build;
 mod carried;
+mod index_for;
 mod inputs;
+mod limits;
 mod plain;
-mod pooling;
 mod query;
 mod request;
 mod told;
 mod top;
+mod vamana;
 
 pub use annbuild_lines::{Fault, Rule, Status, What};
 pub use annbuild_words::{Role, SettingName};

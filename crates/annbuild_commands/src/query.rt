@@ -11,7 +11,7 @@ ghost use Rattle.command_shapes.specs.AnswerLines.{lines_from};
 ghost use Rattle.annbuild_commands.specs.Querying.{querying, unfit_in, all_answers};
 
 use crate::inputs::{Inputs, read_inputs};
-use crate::pooling::pool_for;
+use crate::limits::pool_for;
 use ann_shelf::{Gate, NoMemory, Out, Shelf};
 use annbuild_lines::Fault;
 use annbuild_words::{Request, Settings};

@@ -1,5 +1,5 @@
 use Rattle.std.proofs.Common.{◌≡◌}
-use Rattle.annbuild_commands.proofs.build.index_on.Given as goal
+use Rattle.annbuild_commands.proofs.vamana.index_on.Given as goal
 
 abbrev pub invariant-loop-batch : goal.invariant-loop-batch
 invariant-loop-batch g l = record {
