@@ -2,9 +2,9 @@
 use Rattle.std.specs.Prelude.{ℕ, List, [], Option, None}
 use Rattle.ann_shelf.specs.Files.{Files}
 use Rattle.annbuild_words.specs.Asked.{Command}
-use Rattle.annbuild_words.specs.declared.request.Settings.{Settings}
-use Rattle.annbuild_words.specs.declared.request.Verb.{Verb}
-use Rattle.annbuild_words.specs.declared.request.Verb.TheVariants as verbs
+use Rattle.command_options.specs.declared.settings.Settings.{Settings}
+use Rattle.command_options.specs.declared.verb.Verb.{Verb}
+use Rattle.command_options.specs.declared.verb.Verb.TheVariants as verbs
 use Rattle.annbuild_lines.specs.declared.fault.Fault.{Fault}
 use Rattle.command_shapes.specs.Doing.{Doing, refusal_of}
 use Rattle.command_shapes.specs.Clauses.{StoresOf, PrintsOf, IsToldBy, HasCauseOf, IsQuietOf, LeavesOf, LeavesOutOf, WritesInOrderOf, WritesIfAcceptedOf}

@@ -6,7 +6,7 @@ ghost use Rattle.annbuild_words.specs.Asked.{request_of};
 ghost use Rattle.annbuild_words.specs.Asked.Meaning.{Nothing', Outside'};
 ghost use Rattle.annbuild_lines.specs.Codes.{code_of};
 ghost use Rattle.annbuild_lines.specs.declared.fault.Fault.TheVariants as Fault;
-ghost use Rattle.annbuild_words.specs.declared.role.SettingName.{SettingName};
+ghost use Rattle.command_options.specs.declared.setting_name.SettingName.{SettingName};
 ghost use Rattle.annbuild_commands.specs.Commands.{Stores, Prints, refusal, IsQuiet, Tells, HasCause, Leaves, LeavesOut, WritesInOrder, WritesIfAccepted};
 ghost use Rattle.command_shapes.specs.Clauses.{IsBeforeWriting, IsShownOrNoMemory};
 ghost use Rattle.annbuild_commands.specs.Ending.{OnCommand, IsNoCommand, TellsOf};
