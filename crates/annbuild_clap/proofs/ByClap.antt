@@ -9,18 +9,19 @@ use Rattle.clap.specs.declared.parser.matches.SubCommand.{SubCommand}
 use Rattle.std.specs.Prelude.{Box}
 use Rattle.std.specs.Box.{box_value}
 use Rattle.ann_defs.specs.declared.limits.TheConstants.{MAX_BEAM, MAX_POINTS}
-use Rattle.annbuild_words.specs.declared.request.Settings.{Settings}
-use Rattle.annbuild_words.specs.declared.request.Verb.{Verb}
-use Rattle.annbuild_words.specs.declared.form.Form.{Form}
-use Rattle.annbuild_words.specs.declared.table.OptionName.{OptionName}
-use Rattle.annbuild_words.specs.declared.table.OptionName.TheVariants as options
-use Rattle.annbuild_words.specs.declared.value.Value.{Value}
-use Rattle.annbuild_words.specs.declared.value.Value.TheVariants.{Number}
+use Rattle.command_options.specs.declared.settings.Settings.{Settings}
+use Rattle.command_options.specs.declared.verb.Verb.{Verb}
+use Rattle.command_options.specs.declared.form.Form.{Form}
+use Rattle.command_options.specs.declared.option_name.OptionName.{OptionName}
+use Rattle.command_options.specs.declared.option_name.OptionName.TheVariants as options
+use Rattle.command_options.specs.declared.value.Value.{Value}
+use Rattle.command_options.specs.declared.value.Value.TheVariants.{Number}
 use Rattle.annbuild_words.specs.Asked.{Command, HasNoMore}
-use Rattle.annbuild_words.specs.Forms.{option_form, value_or_default, default_value, form_of_k}
-use Rattle.annbuild_words.specs.Options.{option_name, is_named}
-use Rattle.annbuild_words.specs.Settings.{settings_of, values_of, kept, IsInRange}
-use Rattle.annbuild_words.specs.Shapes.{verb_in, options_of, is_exact}
+use Rattle.command_options.specs.Forms.{option_form, default_value, form_of_k}
+use Rattle.annbuild_words.specs.ValueTexts.{value_or_default}
+use Rattle.command_options.specs.Settings.{settings_of, values_of, kept, IsInRange}
+use Rattle.command_options.specs.Verbs.{verb_in}
+use Rattle.command_options.specs.Shapes.{has_option, is_exact}
 use Rattle.annbuild_words.proofs.Kept.{same_values}
 use Rattle.annbuild_clap.specs.Canonical.{canonical_words, value_text}
 use Rattle.annbuild_clap.specs.Program.{program, command_by, command_in}
@@ -79,7 +80,7 @@ masked false form v h = refl
 settings_back : (verb : Verb) (s : Settings) → IsInRange verb s → s.seed < 2 ^ 64 → s.floor < 2 ^ 64 → settings_of (read_back verb s.kind (values_of s)) ≡ s
 settings_back verb s r seed floor =
     same_values (read_back verb s.kind (values_of s)) (kept verb s.kind (values_of s))
-    (λ o. masked (is_named (option_name o) (options_of verb s.kind)) (option_form verb s.kind o) (values_of s o) (value_back verb s r seed floor o))
+    (λ o. masked (has_option verb s.kind o) (option_form verb s.kind o) (values_of s o) (value_back verb s r seed floor o))
     ∙ r.defaults
 
 pub taken : (words : List (List ℕ)) (c : Command) → words ≡ canonical_words c → HasNoMore c → takes program words ≡ true

@@ -4,22 +4,22 @@ use Rattle.clap.specs.Words.{subcommand_of, takes}
 use Rattle.clap.proofs.OnLiterals.{clap_on_literals}
 use Rattle.ann_defs.specs.declared.kinds.Kind.{Kind}
 use Rattle.ann_defs.specs.declared.kinds.Kind.TheVariants.{Vamana, Hnsw, Nnd}
-use Rattle.annbuild_words.specs.declared.request.Settings.{Settings}
-use Rattle.annbuild_words.specs.declared.request.Verb.{Verb}
-use Rattle.annbuild_words.specs.declared.request.Verb.TheVariants as verbs
-use Rattle.annbuild_words.specs.declared.table.OptionName.{OptionName}
-use Rattle.annbuild_words.specs.declared.value.Value.{Value}
+use Rattle.command_options.specs.declared.settings.Settings.{Settings}
+use Rattle.command_options.specs.declared.verb.Verb.{Verb}
+use Rattle.command_options.specs.declared.verb.Verb.TheVariants as verbs
+use Rattle.command_options.specs.declared.option_name.OptionName.{OptionName}
+use Rattle.command_options.specs.declared.value.Value.{Value}
 use Rattle.annbuild_words.specs.Asked.{Command, HasNoMore}
-use Rattle.annbuild_words.specs.Forms.{option_form, value_or_default, value_in}
-use Rattle.annbuild_words.specs.Options.{option_name, is_named}
-use Rattle.annbuild_words.specs.Settings.{settings_of, values_of}
-use Rattle.annbuild_words.specs.Shapes.{options_of}
+use Rattle.command_options.specs.Forms.{option_form}
+use Rattle.annbuild_words.specs.ValueTexts.{value_or_default, value_in}
+use Rattle.command_options.specs.Settings.{settings_of, values_of}
+use Rattle.command_options.specs.Shapes.{has_option}
 use Rattle.annbuild_clap.specs.Canonical.{canonical_words, value_text}
-use Rattle.annbuild_clap.specs.Program.{program, command_in}
+use Rattle.annbuild_clap.specs.Program.{program, command_app, with_option, command_in}
 
 -- the values that the texts of a command's options write
 abbrev pub read_back : Verb → Kind → (OptionName → Value) → OptionName → Value
-read_back verb kind v option = value_or_default (option_form verb kind option) (cond (is_named (option_name option) (options_of verb kind)) (value_text (v option)) None)
+read_back verb kind v option = value_or_default (option_form verb kind option) (cond (has_option verb kind option) (value_text (v option)) None)
 
 -- clap takes the canonical words of a command, and what it makes of them is the command, with the values of its words
 pub record IsRead (c : Command) : Type 0 where
@@ -30,73 +30,73 @@ abbrev with : Verb → (a b c d : List ℕ) → Settings → Command
 with verb a b c d s = record { verb = verb; first = a; second = b; third = c; fourth = d; settings = s }
 
 build_vamana : (a b : List ℕ) (s : Settings) (cap : Option ℕ) → IsRead (with verbs.Build a b [] [] (record s { kind = Vamana; cap = cap }))
-unfolding clap_on_literals program canonical_words value_in
+unfolding clap_on_literals program command_app with_option canonical_words value_in
 build_vamana a b s None = record { taken = refl; found = refl }
 build_vamana a b s (Some n) = record { taken = refl; found = refl }
 
 build_hnsw : (a b : List ℕ) (s : Settings) (cap : Option ℕ) → IsRead (with verbs.Build a b [] [] (record s { kind = Hnsw; cap = cap }))
-unfolding clap_on_literals program canonical_words value_in
+unfolding clap_on_literals program command_app with_option canonical_words value_in
 build_hnsw a b s None = record { taken = refl; found = refl }
 build_hnsw a b s (Some n) = record { taken = refl; found = refl }
 
 build_nnd : (a b : List ℕ) (s : Settings) → IsRead (with verbs.Build a b [] [] (record s { kind = Nnd }))
-unfolding clap_on_literals program canonical_words value_in
+unfolding clap_on_literals program command_app with_option canonical_words value_in
 build_nnd a b s = record { taken = refl; found = refl }
 
 query : (a b c : List ℕ) (s : Settings) → IsRead (with verbs.Query a b c [] s)
-unfolding clap_on_literals program canonical_words
+unfolding clap_on_literals program command_app with_option canonical_words
 query a b c s = record { taken = refl; found = refl }
 
 check : (a b : List ℕ) (s : Settings) → IsRead (with verbs.Check a b [] [] s)
-unfolding clap_on_literals program canonical_words
+unfolding clap_on_literals program command_app with_option canonical_words
 check a b s = record { taken = refl; found = refl }
 
 make : (a : List ℕ) (s : Settings) → IsRead (with verbs.Make a [] [] [] s)
-unfolding clap_on_literals program canonical_words
+unfolding clap_on_literals program command_app with_option canonical_words
 make a s = record { taken = refl; found = refl }
 
 trial_vamana : (s : Settings) (cap : Option ℕ) → IsRead (with verbs.Trial [] [] [] [] (record s { kind = Vamana; cap = cap }))
-unfolding clap_on_literals program canonical_words value_in
+unfolding clap_on_literals program command_app with_option canonical_words value_in
 trial_vamana s None = record { taken = refl; found = refl }
 trial_vamana s (Some n) = record { taken = refl; found = refl }
 
 trial_hnsw : (s : Settings) (cap : Option ℕ) → IsRead (with verbs.Trial [] [] [] [] (record s { kind = Hnsw; cap = cap }))
-unfolding clap_on_literals program canonical_words value_in
+unfolding clap_on_literals program command_app with_option canonical_words value_in
 trial_hnsw s None = record { taken = refl; found = refl }
 trial_hnsw s (Some n) = record { taken = refl; found = refl }
 
 trial_nnd : (s : Settings) → IsRead (with verbs.Trial [] [] [] [] (record s { kind = Nnd }))
-unfolding clap_on_literals program canonical_words value_in
+unfolding clap_on_literals program command_app with_option canonical_words value_in
 trial_nnd s = record { taken = refl; found = refl }
 
 live : (a b c : List ℕ) (s : Settings) (cap : Option ℕ) → IsRead (with verbs.Live a b c [] (record s { cap = cap }))
-unfolding clap_on_literals program canonical_words
+unfolding clap_on_literals program command_app with_option canonical_words
 live a b c s None = record { taken = refl; found = refl }
 live a b c s (Some n) = record { taken = refl; found = refl }
 
 exact : (a b : List ℕ) (s : Settings) → IsRead (with verbs.Exact a b [] [] s)
-unfolding clap_on_literals program canonical_words
+unfolding clap_on_literals program command_app with_option canonical_words
 exact a b s = record { taken = refl; found = refl }
 
 recall : (a b c : List ℕ) (s : Settings) → IsRead (with verbs.Recall a b c [] s)
-unfolding clap_on_literals program canonical_words
+unfolding clap_on_literals program command_app with_option canonical_words
 recall a b c s = record { taken = refl; found = refl }
 
 forget : (a b c d : List ℕ) (s : Settings) → IsRead (with verbs.Forget a b c d s)
-unfolding clap_on_literals program canonical_words
+unfolding clap_on_literals program command_app with_option canonical_words
 forget a b c d s = record { taken = refl; found = refl }
 
 without : (a b c d : List ℕ) (s : Settings) → IsRead (with verbs.Without a b c d s)
-unfolding clap_on_literals program canonical_words
+unfolding clap_on_literals program command_app with_option canonical_words
 without a b c d s = record { taken = refl; found = refl }
 
 label : (a b c : List ℕ) (s : Settings) (cap : Option ℕ) → IsRead (with verbs.Label a b c [] (record s { cap = cap }))
-unfolding clap_on_literals program canonical_words
+unfolding clap_on_literals program command_app with_option canonical_words
 label a b c s None = record { taken = refl; found = refl }
 label a b c s (Some n) = record { taken = refl; found = refl }
 
 find : (a b c d : List ℕ) (s : Settings) → IsRead (with verbs.Find a b c d s)
-unfolding clap_on_literals program canonical_words
+unfolding clap_on_literals program command_app with_option canonical_words
 find a b c d s = record { taken = refl; found = refl }
 
 -- the same of any command whose other names are empty

@@ -1,4 +1,5 @@
 pub mod Computed
 pub mod ReadBack
 pub mod Nested
+pub mod SetWords
 pub mod ByClap

@@ -3,9 +3,9 @@ use Rattle.std.proofs.Common.{◌≡◌, ◌&&◌, Bool, true, false, refl, ap, 
 use Rattle.clap.specs.declared.builder.Command.{Command}
 use Rattle.clap.specs.Words.{AddsSubcommand, App, app_of, with_subcommand}
 use Rattle.clap.proofs.SimpleLemmas.{plain_fields}
-use Rattle.annbuild_words.specs.declared.request.Verb.{Verb}
-use Rattle.annbuild_words.specs.declared.request.Verb.TheVariants as verbs
-use Rattle.annbuild_clap.specs.Program.{command_app}
+use Rattle.command_options.specs.declared.verb.Verb.{Verb}
+use Rattle.command_options.specs.declared.verb.Verb.TheVariants as verbs
+use Rattle.annbuild_clap.specs.Program.{command_app, with_option}
 
 -- a command of which the app is known, and is plain
 pub nested : (old sub new : Command) (app : App) → AddsSubcommand old sub new → app_of sub ≡ app → app.top.is_plain ≡ true → app_of new ≡ with_subcommand (app_of old) app.top
@@ -18,6 +18,7 @@ first_passes false b h = cc
 
 -- each command is plain
 pub plain_command : (verb : Verb) → (command_app verb).top.is_plain ≡ true
+unfolding command_app with_option
 plain_command verbs.Build = refl
 plain_command verbs.Query = refl
 plain_command verbs.Check = refl

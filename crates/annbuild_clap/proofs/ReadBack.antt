@@ -19,13 +19,14 @@ use Rattle.ann_defs.specs.declared.kinds.StartKind.{StartKind}
 use Rattle.ann_defs.specs.declared.kinds.StartKind.TheVariants.{First, Medoid}
 use Rattle.ann_defs.specs.declared.kinds.Way.{Way}
 use Rattle.ann_defs.specs.declared.kinds.Way.TheVariants.{Serial, Shares, Stealing}
-use Rattle.annbuild_words.specs.declared.form.Range.{Range}
-use Rattle.annbuild_words.specs.declared.form.Form.TheVariants.{OfNumber, OfFraction, OfKind, OfPool, OfOrder, OfStart, OfElement}
-use Rattle.annbuild_words.specs.declared.value.Value.TheVariants.{Number, Fraction, KindIs, PoolIs, OrderIs, StartIs, ElementIs}
+use Rattle.command_options.specs.declared.form.Range.{Range}
+use Rattle.command_options.specs.declared.form.Form.TheVariants.{OfNumber, OfFraction, OfKind, OfPool, OfOrder, OfStart, OfElement}
+use Rattle.command_options.specs.declared.value.Value.TheVariants.{Number, Fraction, KindIs, PoolIs, OrderIs, StartIs, ElementIs}
 use Rattle.annbuild_words.specs.Numbers.{number, is_number, is_slash, both, fraction}
-use Rattle.annbuild_words.specs.Forms.{value_in, value_or_default, default_value}
-use Rattle.annbuild_words.specs.Names.{kind_name, pool_name, order_name, start_name, element_name}
-use Rattle.annbuild_words.specs.Settings.{number_or_rule}
+use Rattle.command_options.specs.Forms.{default_value}
+use Rattle.annbuild_words.specs.ValueTexts.{value_in, value_or_default}
+use Rattle.command_options.specs.Names.{kind_name, pool_name, order_name, start_name, element_name}
+use Rattle.command_options.specs.Settings.{number_or_rule}
 use Rattle.annbuild_clap.specs.Canonical.{value_text}
 
 own : IsNumeralModel (λ ds. all_ascii_digits ds ≡ true) (digits_value 10)

@@ -1,16 +1,17 @@
 -- The canonical words of a command: its name, its options in the order of the table with their values spelled out, `--`,
 -- and its file names.
-use Rattle.std.specs.Prelude.{ℕ, List, [], ◌∷◌, ◌++◌, length, take, Option, Some, None, codes, decimal}
+use Rattle.std.specs.Prelude.{ℕ, cond, List, [], ◌∷◌, ◌++◌, length, take, Option, Some, None, codes, decimal}
 use Rattle.std.specs.List.{filter_map}
 use Rattle.std.specs.Option.{option_map}
-use Rattle.annbuild_words.specs.declared.table.OptionName.{OptionName}
-use Rattle.annbuild_words.specs.declared.value.Value.{Value}
-use Rattle.annbuild_words.specs.declared.value.Value.TheVariants.{ByRule, Number, Fraction, KindIs, PoolIs, OrderIs, StartIs, ElementIs}
+use Rattle.command_options.specs.declared.option_name.OptionName.{OptionName}
+use Rattle.command_options.specs.declared.value.Value.{Value}
+use Rattle.command_options.specs.declared.value.Value.TheVariants.{ByRule, Number, Fraction, KindIs, PoolIs, OrderIs, StartIs, ElementIs}
 use Rattle.annbuild_words.specs.Asked.{Command, names_of}
-use Rattle.annbuild_words.specs.Names.{kind_name, pool_name, order_name, start_name, element_name}
-use Rattle.annbuild_words.specs.Options.{option_name}
-use Rattle.annbuild_words.specs.Settings.{values_of}
-use Rattle.annbuild_words.specs.Shapes.{verb_name, roles_of, options_of}
+use Rattle.command_options.specs.Names.{kind_name, pool_name, order_name, start_name, element_name}
+use Rattle.command_options.specs.Options.{option_name, every_option}
+use Rattle.command_options.specs.Settings.{values_of}
+use Rattle.command_options.specs.Verbs.{verb_name, roles_of}
+use Rattle.command_options.specs.Shapes.{has_option}
 
 -- the text of a value, if it has one
 abbrev pub value_text : Value → Option (List ℕ)
@@ -27,10 +28,10 @@ value_text (ElementIs element) = Some (element_name element)
 abbrev pub word_of : OptionName → Value → Option (List ℕ)
 word_of option value = option_map (λ text. option_name option ++ codes "=" ++ text) (value_text value)
 
--- the words that set these options
-abbrev pub set_words : (OptionName → Value) → List OptionName → List (List ℕ)
-set_words values options = filter_map (λ o. word_of o (values o)) options
+-- the words that set those of these options that the command has
+abbrev pub set_words : Command → List OptionName → List (List ℕ)
+set_words c options = filter_map (λ o. cond (has_option c.verb c.settings.kind o) (word_of o (values_of c.settings o)) None) options
 
 -- the canonical words
 unfoldable pub canonical_words : Command → List (List ℕ)
-canonical_words c = verb_name c.verb ∷ [] ++ set_words (values_of c.settings) (options_of c.verb c.settings.kind) ++ codes "--" ∷ [] ++ take (length (roles_of c.verb)) (names_of c)
+canonical_words c = verb_name c.verb ∷ [] ++ set_words c every_option ++ codes "--" ∷ [] ++ take (length (roles_of c.verb)) (names_of c)

@@ -1,29 +1,35 @@
 -- The command line that clap is told of, and the command that its matches stand for.
-use Rattle.std.specs.Prelude.{ℕ, true, List, [], ◌∷◌, Option, Some, None, codes, slice_get}
+use Rattle.std.specs.Prelude.{ℕ, true, cond, List, [], ◌∷◌, Option, Some, None, codes, slice_get}
 use Rattle.std.specs.Option.{unwrap_or, option_map, option_map_or}
 use Rattle.clap.specs.Words.{App, Row, Rule, Text, first_of, new_app, new_rule, with_rule, with_subcommand}
 use Rattle.ann_defs.specs.declared.kinds.Kind.{Kind}
 use Rattle.ann_defs.specs.declared.kinds.Kind.TheVariants.{Vamana}
-use Rattle.annbuild_words.specs.declared.request.Verb.{Verb}
-use Rattle.annbuild_words.specs.declared.role.Role.{Role}
-use Rattle.annbuild_words.specs.declared.role.Role.TheVariants.{Base, Index, Queries, Output, Gone, Fresh, Labels}
-use Rattle.annbuild_words.specs.declared.table.OptionName.{OptionName}
-use Rattle.annbuild_words.specs.declared.table.OptionName.TheVariants as options
-use Rattle.annbuild_words.specs.declared.value.Value.{Value}
+use Rattle.command_options.specs.declared.verb.Verb.{Verb}
+use Rattle.command_options.specs.declared.role.Role.{Role}
+use Rattle.command_options.specs.declared.role.Role.TheVariants.{Base, Index, Queries, Output, Gone, Fresh, Labels}
+use Rattle.command_options.specs.declared.option_name.OptionName.{OptionName}
+use Rattle.command_options.specs.declared.option_name.OptionName.TheVariants as options
+use Rattle.command_options.specs.declared.value.Value.{Value}
 use Rattle.annbuild_words.specs.Asked.{Command}
-use Rattle.annbuild_words.specs.Forms.{option_form, value_or_default}
-use Rattle.annbuild_words.specs.Options.{long_name}
-use Rattle.annbuild_words.specs.Settings.{settings_of, kind_of}
-use Rattle.annbuild_words.specs.Shapes.{verb_name, verb_in, every_verb, roles_of, options_of_any}
+use Rattle.command_options.specs.Forms.{option_form}
+use Rattle.annbuild_words.specs.ValueTexts.{value_or_default}
+use Rattle.command_options.specs.Options.{long_name, every_option}
+use Rattle.command_options.specs.Settings.{settings_of, kind_of}
+use Rattle.command_options.specs.Verbs.{verb_name, verb_in, every_verb, roles_of}
+use Rattle.command_options.specs.Shapes.{has_option_of_any}
 
 -- an option
 abbrev pub option_rule : OptionName → Rule
 option_rule option = record (new_rule (long_name option)) { long = Some (long_name option) }
 
--- a command with more options
-abbrev pub with_options : App → List OptionName → App
-with_options app [] = app
-with_options app (o ∷ options) = with_options (with_rule app (option_rule o)) options
+-- a command with an option, if it has the option for some kind of index
+unfoldable pub with_option : Verb → App → OptionName → App
+with_option verb app option = cond (has_option_of_any verb option) (with_rule app (option_rule option)) app
+
+-- the same with these options
+abbrev pub with_options : Verb → App → List OptionName → App
+with_options verb app [] = app
+with_options verb app (o ∷ options) = with_options verb (with_option verb app o) options
 
 -- what clap calls a file: no option is called so
 abbrev pub file_id : Role → Text
@@ -41,8 +47,8 @@ with_files app [] = app
 with_files app (role ∷ roles) = with_files (with_rule app (new_rule (file_id role))) roles
 
 -- a command of the program
-abbrev pub command_app : Verb → App
-command_app verb = with_files (with_options (new_app (verb_name verb)) (options_of_any verb)) (roles_of verb)
+unfoldable pub command_app : Verb → App
+command_app verb = with_files (with_options verb (new_app (verb_name verb)) every_option) (roles_of verb)
 
 -- the program without commands: its words don't begin with its name, and it has no help and no version
 abbrev pub bare_program : App

@@ -3,13 +3,12 @@
 ghost use Rattle.std.specs.Prelude.{◌≡◌, ◌<◌, ◌≤◌, ◌++◌, ◌∷◌, [], get_or, length, take, IfOk, OnOk, option_map, string_bytes};
 ghost use Rattle.annbuild_words.specs.Asked.{command_of, names_of};
 ghost use Rattle.annbuild_words.specs.Parts.{texts};
-ghost use Rattle.annbuild_words.specs.Settings.{values_of};
 ghost use Rattle.annbuild_clap.specs.Canonical.{word_of, set_words, canonical_words};
 
 use ann_shelf::NoMemory;
-use annbuild_words::{
-    OptionName, Request, Settings, Value, Values, element_text, kind_text, name_of, options_of,
-    order_text, pool_text, roles_of, start_text, verb_text,
+use annbuild_words::Request;
+use command_options::{
+    Named, OPTIONS, OptionName, Value, Values, has_option, name_of, roles_of, verb_text,
 };
 use std::alloc::Global;
 
@@ -22,11 +21,11 @@ fn setting_word(alloc: Global, option: OptionName, value: Value) -> Result<Optio
         Value::ByRule => return Ok(None),
         Value::Number(n) => format!(in alloc; "{name}={n}")?,
         Value::Fraction { num, den } => format!(in alloc; "{name}={num}/{den}")?,
-        Value::KindIs(kind) => format!(in alloc; "{name}={}", kind_text(kind))?,
-        Value::PoolIs(way) => format!(in alloc; "{name}={}", pool_text(way))?,
-        Value::OrderIs(kind) => format!(in alloc; "{name}={}", order_text(kind))?,
-        Value::StartIs(kind) => format!(in alloc; "{name}={}", start_text(kind))?,
-        Value::ElementIs(element) => format!(in alloc; "{name}={}", element_text(element))?,
+        Value::KindIs(kind) => format!(in alloc; "{name}={}", kind.text())?,
+        Value::PoolIs(way) => format!(in alloc; "{name}={}", way.text())?,
+        Value::OrderIs(kind) => format!(in alloc; "{name}={}", kind.text())?,
+        Value::StartIs(kind) => format!(in alloc; "{name}={}", kind.text())?,
+        Value::ElementIs(element) => format!(in alloc; "{name}={}", element.text())?,
     };
     Ok(Some(word))
 }
@@ -39,16 +38,19 @@ fn push_text(alloc: Global, words: &mut Vec<String>, text: &str) -> Result<(), N
     Ok(())
 }
 
-/// Adds the word that sets an option, where its value has a text.
+/// Adds the word that sets an option, where the command has it and its value has a text.
 fn push_setting(
     alloc: Global,
     words: &mut Vec<String>,
-    settings: &Settings,
+    request: &Request<'_>,
     option: OptionName,
 ) -> Result<(), NoMemory>
-    ensures { OnOk result (texts words.new.items ≡ texts words.old.items ++ set_words (values_of settings.now) (option ∷ [])) }
+    ensures { OnOk result (texts words.new.items ≡ texts words.old.items ++ set_words (command_of request.now) (option ∷ [])) }
 {
-    match setting_word(alloc, option, settings.value(option))? {
+    if !has_option(request.verb, request.settings.kind, option) {
+        return Ok(());
+    }
+    match setting_word(alloc, option, request.settings.value(option))? {
         Some(word) => {
             words.push(word)?;
             Ok(())
@@ -57,17 +59,17 @@ fn push_setting(
     }
 }
 
-/// Adds the words that set these options.
+/// Adds the words that set those of these options that the command has.
 fn push_settings(
     alloc: Global,
     words: &mut Vec<String>,
-    settings: &Settings,
+    request: &Request<'_>,
     options: &[OptionName],
 ) -> Result<(), NoMemory>
-    ensures { OnOk result (texts words.new.items ≡ texts words.old.items ++ set_words (values_of settings.now) options.now) }
+    ensures { OnOk result (texts words.new.items ≡ texts words.old.items ++ set_words (command_of request.now) options.now) }
 {
     for option in options {
-        push_setting(alloc, words, settings, *option)?;
+        push_setting(alloc, words, request, *option)?;
     }
     Ok(())
 }
@@ -109,8 +111,7 @@ pub fn words_of(alloc: Global, request: &Request<'_>) -> Result<Vec<String>, NoM
     let verb = request.verb;
     let mut words = Vec::new(alloc);
     push_text(alloc, &mut words, verb_text(verb))?;
-    let options = options_of(verb, request.settings.kind);
-    push_settings(alloc, &mut words, &request.settings, options)?;
+    push_settings(alloc, &mut words, request, &OPTIONS)?;
     push_text(alloc, &mut words, "--")?;
     push_names(alloc, &mut words, request, roles_of(verb).len())?;
     Ok(words)

@@ -2,11 +2,13 @@
 ghost use Rattle.std.specs.Prelude.{◌≡◌, IfOk, IfErr, true};
 ghost use Rattle.clap.specs.Words.{app_of, kind_of, new_rule, subcommand_of, subcommand_rows_of, takes, with_rule, with_subcommand};
 ghost use Rattle.annbuild_words.specs.Parts.{texts};
-ghost use Rattle.annbuild_clap.specs.Program.{option_rule, file_id, with_options, with_files, command_app, bare_program, with_commands, program};
+ghost use Rattle.annbuild_clap.specs.Program.{option_rule, file_id, with_option, with_options, with_files, command_app, bare_program, with_commands, program};
 
-use annbuild_words::{OptionName, Role, VERBS, Verb, long_of, options_of_any, roles_of, verb_text};
 use clap::error::ErrorKind;
 use clap::{Arg, ArgMatches, Command, Error};
+use command_options::{
+    OPTIONS, OptionName, Role, VERBS, Verb, has_option_of_any, long_of, roles_of, verb_text,
+};
 use std::alloc::{AllocError, Global};
 
 /// What clap calls a file. No option is called so.
@@ -24,14 +26,19 @@ pub fn file_id(role: Role) -> &'static str
     }
 }
 
-/// Adds an option.
+/// Adds an option, if a command has it for some kind of index.
+#[tactic(auto, unfolding(crate::specs::Program::with_option))]
 fn add_option<'m>(
     alloc: Global,
     command: Command<'m>,
+    verb: Verb,
     option: OptionName,
 ) -> Result<Command<'m>, AllocError>
-    ensures { IfOk result (λ c. app_of c ≡ with_rule (app_of command.entry) (option_rule option)) }
+    ensures { IfOk result (λ c. app_of c ≡ with_option verb (app_of command.entry) option) }
 {
+    if !has_option_of_any(verb, option) {
+        return Ok(command);
+    }
     let name: &'m str = long_of(option);
     command.arg(Arg::new(alloc, name).long(name))
 }
@@ -44,17 +51,18 @@ fn add_file<'m>(alloc: Global, command: Command<'m>, role: Role) -> Result<Comma
     command.arg(Arg::new(alloc, name))
 }
 
-/// Adds options.
+/// Adds those of these options that a command has for some kind of index.
 fn add_options<'m>(
     alloc: Global,
     command: Command<'m>,
+    verb: Verb,
     options: &[OptionName],
 ) -> Result<Command<'m>, AllocError>
-    ensures { IfOk result (λ c. app_of c ≡ with_options (app_of command.entry) options.now) }
+    ensures { IfOk result (λ c. app_of c ≡ with_options verb (app_of command.entry) options.now) }
 {
     let mut command = command;
     for option in options {
-        command = add_option(alloc, command, *option)?;
+        command = add_option(alloc, command, verb, *option)?;
     }
     Ok(command)
 }
@@ -75,11 +83,12 @@ fn add_files<'m>(
 }
 
 /// A command of the program.
+#[tactic(auto, unfolding(crate::specs::Program::command_app))]
 fn subcommand<'m>(alloc: Global, verb: Verb) -> Result<Command<'m>, AllocError>
     ensures { IfOk result (λ c. app_of c ≡ command_app verb) }
 {
     let name: &'m str = verb_text(verb);
-    let command = add_options(alloc, Command::new(alloc, name), options_of_any(verb))?;
+    let command = add_options(alloc, Command::new(alloc, name), verb, &OPTIONS)?;
     add_files(alloc, command, roles_of(verb))
 }
 

@@ -3,7 +3,7 @@ ghost use Rattle.std.specs.Prelude.{◌≡◌, [], true, unwrap_or, IsSome, IfOk
 ghost use Rattle.clap.specs.Words.{first_of, found_of, rows_of, subcommand_of, subcommand_rows_of, takes};
 ghost use Rattle.annbuild_words.specs.Asked.{command_of, HasNoMore};
 ghost use Rattle.annbuild_words.specs.Parts.{texts};
-ghost use Rattle.annbuild_words.specs.Settings.{settings_of, IsInRange};
+ghost use Rattle.command_options.specs.Settings.{settings_of, IsInRange};
 ghost use Rattle.annbuild_clap.specs.Owned.{parsed_command};
 ghost use Rattle.annbuild_clap.specs.Program.{setting_in, file_in, kind_in_rows, command_by, command_in, program};
 
@@ -12,11 +12,12 @@ use crate::canonical::words_of;
 use crate::program::{file_id, matches_of};
 use ann_defs::Kind;
 use ann_shelf::NoMemory;
-use annbuild_words::{
-    OptionName, Request, Value, Values, Verb, form_of, kind_in_value, long_of, or_default,
-    read_verb, roles_of, settings_of,
-};
+use annbuild_words::{Request, or_default};
 use clap::ArgMatches;
+use command_options::{
+    OptionName, Value, Values, Verb, form_of, kind_in_value, long_of, read_verb, roles_of,
+    settings_of,
+};
 use std::alloc::Global;
 
 /// The matches of a command, which has options of a kind.
@@ -136,48 +137,4 @@ pub fn parse_by_clap(alloc: Global, request: &Request<'_>) -> Result<Parsed, NoM
     prove!(request.settings.floor <= u64::MAX);
     let words = words_of(alloc, request)?;
     parse_words(alloc, &words)
-}
-
-#[cfg(test)]
-mod tests {
-    use super::*;
-    use annbuild_words::{Asked, read_words};
-    use std::test::Fail;
-
-    /// What clap reads of these words.
-    fn read_twice(alloc: Global, words: &[&str]) -> Result<Parsed, Fail> {
-        let mut owned = Vec::new(alloc);
-        for word in words {
-            owned.push(String::from_str(alloc, *word)?)?;
-        }
-        match read_words(&owned) {
-            Asked::For(request) => match parse_by_clap(alloc, &request) {
-                Ok(parsed) => Ok(parsed),
-                Err(_) => Err(Fail::from("memory")),
-            },
-            _ => Err(Fail::from("no request")),
-        }
-    }
-
-    #[test]
-    fn odd_file_names_and_settings_are_read_by_clap(rt: HostRuntime) -> Result<(), Fail> {
-        let words = ["build", "--cap", "007", "help", "a=b c", "--alpha=5/4"];
-        let parsed = read_twice(rt.alloc(), &words)?;
-        let build = parsed.request();
-        assert_eq!(rt; build.verb, Verb::Build);
-        assert_eq!(rt; build.names.first, "help");
-        assert_eq!(rt; build.names.second, "a=b c");
-        assert_eq!(rt; build.names.third, "");
-        assert_eq!(rt; build.settings.cap, Some(7));
-        assert_eq!(rt; (build.settings.num, build.settings.den), (5, 4));
-        assert_eq!(rt; build.settings.degree, 64);
-        let words = ["query", "build", "query", "--k=3", "x"];
-        let parsed = read_twice(rt.alloc(), &words)?;
-        let query = parsed.request();
-        assert_eq!(rt; query.verb, Verb::Query);
-        assert_eq!(rt; query.names.third, "x");
-        assert_eq!(rt; query.settings.search, 64);
-        assert_eq!(rt; query.settings.k, 3);
-        Ok(())
-    }
 }

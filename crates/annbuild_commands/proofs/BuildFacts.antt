@@ -4,8 +4,8 @@ use Rattle.std.specs.Option.{option_or}
 use Rattle.ann_shelf.specs.Files.{Files, bytes_of, with_file}
 use Rattle.command_shapes.specs.Reading.{points_in}
 use Rattle.graph_rows.specs.Index.{Contents}
-use Rattle.annbuild_words.specs.declared.request.Settings.{Settings}
-use Rattle.annbuild_words.specs.declared.role.Role.TheVariants.{Index}
+use Rattle.command_options.specs.declared.settings.Settings.{Settings}
+use Rattle.command_options.specs.declared.role.Role.TheVariants.{Index}
 use Rattle.command_shapes.specs.Writing.{stored_as}
 use Rattle.command_shapes.proofs.Ending.{Leads}
 use Rattle.annbuild_commands.specs.IndexOf.{index_of, file_of, line_of, words_of}

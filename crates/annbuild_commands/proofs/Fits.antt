@@ -6,10 +6,10 @@ use Rattle.ann_defs.specs.Distance.{dim_of}
 use Rattle.ann_defs.specs.Distance.{PointSet}
 use Rattle.graph_rows.specs.Index.{Contents}
 use Rattle.batch_search.specs.Answers.{answers_of}
-use Rattle.annbuild_words.specs.declared.request.Settings.{Settings}
+use Rattle.command_options.specs.declared.settings.Settings.{Settings}
 use Rattle.annbuild_lines.specs.declared.fault.Fault.{Fault}
 use Rattle.annbuild_lines.specs.declared.fault.Fault.TheVariants.{Unfit}
-use Rattle.annbuild_words.specs.declared.role.Role.TheVariants.{Base, Index, Queries}
+use Rattle.command_options.specs.declared.role.Role.TheVariants.{Base, Index, Queries}
 use Rattle.annbuild_lines.specs.declared.fault.What.TheVariants.{Count, Dim}
 use Rattle.command_shapes.specs.Reading.{AreOf, IsOf, points_in}
 use Rattle.command_shapes.proofs.Ending.{IsOfFiles}

@@ -16,7 +16,7 @@ use Rattle.vamana_build.specs.Builds.{order_of}
 use Rattle.vamana_build.specs.VamanaIndex.{vamana_index}
 use Rattle.annbuild_lines.specs.Lines.{built_text}
 use Rattle.annbuild_lines.specs.declared.fault.Fault.TheVariants.{TooLarge}
-use Rattle.annbuild_words.specs.declared.request.Settings.{Settings}
+use Rattle.command_options.specs.declared.settings.Settings.{Settings}
 use Rattle.annbuild_commands.specs.IndexOf.{vamana_of, file_of, line_of, told_of, kind_at}
 use Rattle.annbuild_commands.specs.Building.{words_refusal}
 

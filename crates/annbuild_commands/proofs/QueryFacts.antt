@@ -6,9 +6,9 @@ use Rattle.bin_files.specs.Rows.{ArePoints}
 use Rattle.ann_shelf.specs.Files.{Files, bytes_of}
 use Rattle.graph_rows.specs.Index.{Contents}
 use Rattle.batch_search.specs.Answers.{answers_of}
-use Rattle.annbuild_words.specs.declared.request.Settings.{Settings}
-use Rattle.annbuild_words.specs.declared.role.Role.{Role}
-use Rattle.annbuild_words.specs.declared.role.Role.TheVariants.{Base, Index, Queries}
+use Rattle.command_options.specs.declared.settings.Settings.{Settings}
+use Rattle.command_options.specs.declared.role.Role.{Role}
+use Rattle.command_options.specs.declared.role.Role.TheVariants.{Base, Index, Queries}
 use Rattle.bin_files.proofs.Pieces.{both_told}
 use Rattle.command_shapes.specs.Doing.{first_refused}
 use Rattle.command_shapes.specs.Reading.{AreOf, IsOf, IsPointsText}

@@ -4,10 +4,10 @@ use Rattle.ann_defs.specs.declared.limits.TheConstants.{MAX_WORDS}
 use Rattle.ann_shelf.specs.declared.slip.Quantity.TheVariants.{Words}
 use Rattle.ann_shelf.specs.Files.{bytes_of}
 use Rattle.graph_rows.specs.Index.{Contents}
-use Rattle.annbuild_words.specs.declared.request.Settings.{Settings}
+use Rattle.command_options.specs.declared.settings.Settings.{Settings}
 use Rattle.annbuild_lines.specs.declared.fault.Fault.{Fault}
 use Rattle.annbuild_lines.specs.declared.fault.Fault.TheVariants.{TooLarge}
-use Rattle.annbuild_words.specs.declared.role.Role.TheVariants.{Base, Index}
+use Rattle.command_options.specs.declared.role.Role.TheVariants.{Base, Index}
 use Rattle.command_shapes.specs.Doing.{Stored, Doing}
 use Rattle.command_shapes.specs.Faults.{points_refusal}
 use Rattle.command_shapes.specs.Reading.{points_read, points_in, IsPointsText}

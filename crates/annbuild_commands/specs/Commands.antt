@@ -1,9 +1,9 @@
 -- Each command as data: the one place in which definitions tell commands apart.
 use Rattle.std.specs.Prelude.{ℕ, List, [], None}
 use Rattle.annbuild_words.specs.Asked.{Command}
-use Rattle.annbuild_words.specs.declared.request.Settings.{Settings}
-use Rattle.annbuild_words.specs.declared.request.Verb.{Verb}
-use Rattle.annbuild_words.specs.declared.request.Verb.TheVariants as verbs
+use Rattle.command_options.specs.declared.settings.Settings.{Settings}
+use Rattle.command_options.specs.declared.verb.Verb.{Verb}
+use Rattle.command_options.specs.declared.verb.Verb.TheVariants as verbs
 use Rattle.command_shapes.specs.Doing.{Doing}
 use Rattle.command_shapes.specs.Writing.{writing}
 use Rattle.annbuild_commands.specs.Building.{building}

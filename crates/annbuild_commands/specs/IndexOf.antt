@@ -6,7 +6,7 @@ use Rattle.ann_defs.specs.declared.kinds.Kind.{Kind}
 use Rattle.ann_defs.specs.declared.kinds.Kind.TheVariants.{Vamana, Hnsw, Nnd}
 use Rattle.graph_rows.specs.Index.{Contents, flat_contents, edges_of, text_of}
 use Rattle.seeded_order.specs.Order.{insertion_order}
-use Rattle.annbuild_words.specs.declared.request.Settings.{Settings}
+use Rattle.command_options.specs.declared.settings.Settings.{Settings}
 use Rattle.annbuild_lines.specs.declared.line.BuiltLine.{BuiltLine}
 use Rattle.annbuild_lines.specs.Lines.{built_text}
 

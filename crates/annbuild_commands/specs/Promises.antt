@@ -6,7 +6,7 @@ use Rattle.ann_shelf.specs.Shown.{Shown}
 use Rattle.ann_shelf.specs.Written.{Got}
 use Rattle.annbuild_words.specs.Asked.{Meaning}
 use Rattle.annbuild_words.specs.Asked.Meaning.{Nothing', Outside'}
-use Rattle.annbuild_words.specs.declared.role.SettingName.{SettingName}
+use Rattle.command_options.specs.declared.setting_name.SettingName.{SettingName}
 use Rattle.annbuild_lines.specs.declared.fault.Fault.{Fault}
 use Rattle.annbuild_lines.specs.declared.fault.Fault.TheVariants.{Usage, Setting}
 use Rattle.command_shapes.specs.Doing.{refusal_of}

@@ -9,10 +9,10 @@ use Rattle.graph_files.specs.Grammar.{index_in}
 use Rattle.graph_rows.specs.View.{contents}
 use Rattle.batch_search.specs.Answers.{answers_of}
 use Rattle.batch_search.specs.declared.batch.QueryBatch.{QueryBatch}
-use Rattle.annbuild_words.specs.declared.request.Settings.{Settings}
+use Rattle.command_options.specs.declared.settings.Settings.{Settings}
 use Rattle.annbuild_lines.specs.declared.fault.Fault.{Fault}
 use Rattle.annbuild_lines.specs.declared.fault.Fault.TheVariants.{Unfit}
-use Rattle.annbuild_words.specs.declared.role.Role.TheVariants.{Base, Index, Queries}
+use Rattle.command_options.specs.declared.role.Role.TheVariants.{Base, Index, Queries}
 use Rattle.annbuild_lines.specs.declared.fault.What.TheVariants.{Count, Dim}
 use Rattle.command_shapes.specs.AnswerLines.{lines_from}
 use Rattle.command_shapes.specs.Doing.{Doing}

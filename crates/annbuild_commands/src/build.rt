@@ -3,9 +3,9 @@ ghost use Rattle.std.specs.Prelude.{◌≡◌, [], ◌∷◌, Some, IfOk, IfErr,
 ghost use Rattle.ann_shelf.specs.Files.{bytes_of};
 ghost use Rattle.graph_rows.specs.View.{contents};
 ghost use Rattle.graph_rows.specs.WellFormed.{IsWellFormed};
-ghost use Rattle.annbuild_words.specs.Settings.{IsInRange};
-ghost use Rattle.annbuild_words.specs.declared.request.Verb.TheVariants as verbs;
-ghost use Rattle.annbuild_words.specs.declared.role.Role.TheVariants as roles;
+ghost use Rattle.command_options.specs.Settings.{IsInRange};
+ghost use Rattle.command_options.specs.declared.verb.Verb.TheVariants as verbs;
+ghost use Rattle.command_options.specs.declared.role.Role.TheVariants as roles;
 ghost use Rattle.ann_shelf.specs.Written.{Got};
 ghost use Rattle.command_shapes.specs.Ends.{Ends, HaveRead, fault_in};
 ghost use Rattle.command_shapes.specs.Reading.{points_read};

@@ -4,7 +4,7 @@ ghost use Rattle.ann_shelf.specs.Faults.{Rose};
 ghost use Rattle.annbuild_words.specs.Asked.{request_of};
 ghost use Rattle.annbuild_words.specs.Asked.Meaning.{Nothing', Outside'};
 ghost use Rattle.annbuild_lines.specs.Codes.{code_of};
-ghost use Rattle.annbuild_words.specs.declared.role.SettingName.{SettingName};
+ghost use Rattle.command_options.specs.declared.setting_name.SettingName.{SettingName};
 ghost use Rattle.command_shapes.specs.Ends.{Ends};
 ghost use Rattle.annbuild_commands.specs.Ending.{OnCommand, IsNoCommand, TellsOf};
 

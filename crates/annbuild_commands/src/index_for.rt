@@ -2,8 +2,8 @@
 ghost use Rattle.std.specs.Prelude.{◌≡◌, ◌⊎◌, Some, None, length, IfOk, IfErr, OnOk};
 ghost use Rattle.graph_rows.specs.View.{contents};
 ghost use Rattle.graph_rows.specs.WellFormed.{IsWellFormed};
-ghost use Rattle.annbuild_words.specs.Settings.{IsInRange};
-ghost use Rattle.annbuild_words.specs.declared.request.Verb.TheVariants as verbs;
+ghost use Rattle.command_options.specs.Settings.{IsInRange};
+ghost use Rattle.command_options.specs.declared.verb.Verb.TheVariants as verbs;
 ghost use Rattle.annbuild_lines.specs.declared.fault.Fault.TheVariants.{NoMemory};
 ghost use Rattle.annbuild_commands.specs.IndexOf.{index_of, words_of};
 ghost use Rattle.annbuild_commands.specs.Building.{words_refusal};

@@ -4,7 +4,7 @@ ghost use Rattle.ann_defs.specs.Distance.{dim_of};
 ghost use Rattle.ann_shelf.specs.Files.{Files, bytes_of};
 ghost use Rattle.graph_rows.specs.View.{contents};
 ghost use Rattle.graph_rows.specs.WellFormed.{IsWellFormed};
-ghost use Rattle.annbuild_words.specs.declared.role.Role.TheVariants as roles;
+ghost use Rattle.command_options.specs.declared.role.Role.TheVariants as roles;
 ghost use Rattle.ann_shelf.specs.Written.{Got};
 ghost use Rattle.command_shapes.specs.Doing.{Doing};
 ghost use Rattle.command_shapes.specs.Ends.{Ends, HaveRead, OnlyRead};

@@ -8,9 +8,9 @@ use Rattle.bin_files.specs.declared.fault.PointsRule.{PointsRule}
 use Rattle.bin_files.specs.declared.fault.PointsRule.TheVariants as points_rules
 use Rattle.graph_files.specs.declared.fault.IndexRule.{IndexRule}
 use Rattle.graph_files.specs.declared.fault.IndexRule.TheVariants as index_rules
-use Rattle.annbuild_words.specs.Names.{role_name, kind_name}
-use Rattle.annbuild_words.specs.declared.role.SettingName.{SettingName}
-use Rattle.annbuild_words.specs.declared.role.SettingName.TheVariants as setting_names
+use Rattle.command_options.specs.Names.{role_name, kind_name}
+use Rattle.command_options.specs.declared.setting_name.SettingName.{SettingName}
+use Rattle.command_options.specs.declared.setting_name.SettingName.TheVariants as setting_names
 use Rattle.annbuild_lines.specs.declared.rules.GoneRule.{GoneRule}
 use Rattle.annbuild_lines.specs.declared.rules.GoneRule.TheVariants as gone_rules
 use Rattle.annbuild_lines.specs.declared.rules.LabelRule.{LabelRule}

@@ -4,8 +4,8 @@ ghost use Rattle.annbuild_lines.specs.Codes.{code_of};
 
 use crate::rules::{GoneRule, LabelRule};
 use ann_shelf::Quantity;
-use annbuild_words::{Role, SettingName};
 use bin_files::PointsRule;
+use command_options::{Role, SettingName};
 use graph_files::IndexRule;
 use thiserror::Error;
 

@@ -1,15 +1,15 @@
 //! The line that tells of a fault.
 ghost use Rattle.std.specs.Prelude.{◌≡◌, ◌+◌, ◌≤◌, ◌++◌, length, decimal};
 ghost use Rattle.annbuild_lines.specs.Lines.{told, fault_text};
-ghost use Rattle.annbuild_words.specs.Names.{role_name};
+ghost use Rattle.command_options.specs.Names.{role_name};
 ghost use Rattle.arrayvec.specs.ArrayVec.{array_vec_len};
 
 use crate::line::{push_number, push_text};
 use crate::names::{quantity_text, rule_text, setting_text, wanted_text, what_text};
 use crate::{Fault, Line, Rule, What};
 use ann_shelf::Quantity;
-use annbuild_words::{Role, SettingName, role_text};
 use arrayvec::ArrayVec;
+use command_options::{Role, SettingName, role_text};
 
 /// Adds a number between two texts.
 fn push_between(line: &mut Line, before: &str, n: u64, after: &str)
@@ -119,52 +119,4 @@ pub fn fault_line(fault: Fault) -> Line
     push_told(&mut line, fault);
     push_text(&mut line, "\n");
     line
-}
-
-#[cfg(test)]
-mod tests {
-    use super::*;
-    use bin_files::PointsRule;
-
-    #[test]
-    fn worked_faults(rt: HostRuntime) {
-        let short = Fault::Malformed {
-            file: Role::Base,
-            place: 0,
-            rule: Rule::Points(PointsRule::ShortHeader),
-        };
-        assert_eq!(rt;
-            fault_line(short).as_slice(),
-            b"annbuild: data is malformed at byte 0: short header\n".as_slice()
-        );
-        let large = Fault::TooLarge {
-            name: Quantity::Count,
-            value: 4_194_305,
-            limit: 4_194_304,
-        };
-        assert_eq!(rt;
-            fault_line(large).as_slice(),
-            b"annbuild: count is 4194305, limit 4194304\n".as_slice()
-        );
-        let unfit = Fault::Unfit {
-            file: Role::Index,
-            what: What::Count,
-            found: 4,
-            wanted: 3,
-        };
-        assert_eq!(rt;
-            fault_line(unfit).as_slice(),
-            b"annbuild: count differs: 4 in index, 3 in data\n".as_slice()
-        );
-        let setting = Fault::Setting {
-            name: SettingName::AlphaNum,
-            value: 9,
-            least: 10,
-            greatest: 1000,
-        };
-        assert_eq!(rt;
-            fault_line(setting).as_slice(),
-            b"annbuild: setting alpha-num is 9, allowed 10 to 1000\n".as_slice()
-        );
-    }
 }

@@ -4,8 +4,8 @@ ghost use Rattle.annbuild_lines.specs.Lines.{built_text};
 ghost use Rattle.arrayvec.specs.ArrayVec.{array_vec_len};
 
 use ann_defs::Kind;
-use annbuild_words::kind_text;
 use arrayvec::ArrayVec;
+use command_options::kind_text;
 
 /// One printed line, in at most 256 bytes.
 pub type Line = ArrayVec<u8, 256>;
@@ -82,26 +82,4 @@ pub fn built_line(told: BuiltLine) -> Line
     push_field(&mut line, " edges ", told.edges);
     push_text(&mut line, "\n");
     line
-}
-
-#[cfg(test)]
-mod tests {
-    use super::*;
-
-    #[test]
-    fn worked_build(rt: HostRuntime) {
-        let told = BuiltLine {
-            kind: Kind::Vamana,
-            count: 4,
-            dim: 1,
-            degree: 2,
-            start: 0,
-            layers: 1,
-            edges: 5,
-        };
-        assert_eq!(rt;
-            built_line(told).as_slice(),
-            b"built vamana count 4 dim 1 degree 2 start 0 layers 1 edges 5\n".as_slice()
-        );
-    }
 }

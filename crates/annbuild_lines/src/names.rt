@@ -5,8 +5,8 @@ ghost use Rattle.annbuild_lines.specs.Lines.{setting_name, points_rule_name, ind
 use crate::rules::{GoneRule, LabelRule};
 use crate::{Rule, What};
 use ann_shelf::Quantity;
-use annbuild_words::SettingName;
 use bin_files::PointsRule;
+use command_options::SettingName;
 use graph_files::IndexRule;
 
 /// What lines call a setting: its option's name without the dashes.

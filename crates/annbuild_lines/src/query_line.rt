@@ -83,18 +83,3 @@ pub fn push_query_line(buffer: &mut Vec<u8>, number: u32, answers: &[Near])
     }
     buffer.push_reserved(b'\n');
 }
-
-#[cfg(test)]
-mod tests {
-    use super::*;
-    use std::test::Fail;
-
-    #[test]
-    fn worked_query(rt: HostRuntime) -> Result<(), Fail> {
-        let answers = [Near { dist: 4, id: 1 }, Near { dist: 64, id: 2 }];
-        let mut buffer = Vec::with_capacity(rt.alloc(), query_line_bytes(2))?;
-        push_query_line(&mut buffer, 0, answers.as_slice());
-        assert_eq!(rt; buffer.as_slice(), b"0 1:4 2:64\n".as_slice());
-        Ok(())
-    }
-}

@@ -1,17 +1,17 @@
 -- Settings are those of their own values, where what the command doesn't have is its default.
 use Rattle.std.proofs.Common.{◌≡◌, ℕ, Bool, true, false, cond, min, List, Option, Some, None, refl, ap, sym, ◌∙◌}
 use Rattle.ann_defs.specs.declared.kinds.Kind.{Kind}
-use Rattle.annbuild_words.specs.declared.form.Form.{Form}
-use Rattle.annbuild_words.specs.declared.request.Verb.{Verb}
-use Rattle.annbuild_words.specs.declared.table.OptionName.{OptionName}
-use Rattle.annbuild_words.specs.declared.table.OptionName.TheVariants as options
-use Rattle.annbuild_words.specs.declared.value.Value.{Value}
-use Rattle.annbuild_words.specs.declared.value.Value.TheVariants.{Number, Fraction, KindIs, PoolIs, OrderIs, StartIs, ElementIs}
-use Rattle.annbuild_words.specs.Forms.{option_form, default_value, value_or_default}
-use Rattle.annbuild_words.specs.Options.{option_name, is_named}
-use Rattle.annbuild_words.specs.Rules.{number_or}
-use Rattle.annbuild_words.specs.Settings.{settings_of, values_of, kept, number_or_rule, numerator, denominator, some_number, kind_of, pool_of, order_of, start_of, element_of}
-use Rattle.annbuild_words.specs.Shapes.{options_of}
+use Rattle.command_options.specs.declared.form.Form.{Form}
+use Rattle.command_options.specs.declared.verb.Verb.{Verb}
+use Rattle.command_options.specs.declared.option_name.OptionName.{OptionName}
+use Rattle.command_options.specs.declared.option_name.OptionName.TheVariants as options
+use Rattle.command_options.specs.declared.value.Value.{Value}
+use Rattle.command_options.specs.declared.value.Value.TheVariants.{Number, Fraction, KindIs, PoolIs, OrderIs, StartIs, ElementIs}
+use Rattle.command_options.specs.Forms.{option_form, default_value}
+use Rattle.annbuild_words.specs.ValueTexts.{value_or_default}
+use Rattle.command_options.specs.Settings.{number_or}
+use Rattle.command_options.specs.Settings.{settings_of, values_of, kept, number_or_rule, numerator, denominator, some_number, kind_of, pool_of, order_of, start_of, element_of}
+use Rattle.command_options.specs.Shapes.{has_option}
 
 -- the settings of values that agree
 pub same_values : (u v : OptionName → Value) → ((o : OptionName) → u o ≡ v o) → settings_of u ≡ settings_of v
@@ -94,12 +94,12 @@ same_fields u v e0 e1 e2 e3 e4 e5 e6 e7 e8 e9 e10 e11 e12 e13 e14 e15 e16 e17 e1
 
 -- values that texts give to the options of a command are kept by their settings
 pub kept_settings : (verb : Verb) (kind : Kind) (text : OptionName → Option (List ℕ)) (w : OptionName → Value)
-    → ((o : OptionName) → w o ≡ value_or_default (option_form verb kind o) (cond (is_named (option_name o) (options_of verb kind)) (text o) None))
+    → ((o : OptionName) → w o ≡ value_or_default (option_form verb kind o) (cond (has_option verb kind o) (text o) None))
     → settings_of (kept verb kind (values_of (settings_of w))) ≡ settings_of w
 kept_settings verb kind text w is =
-    let b : OptionName → Bool = λ o. is_named (option_name o) (options_of verb kind) in
+    let b : OptionName → Bool = λ o. has_option verb kind o in
     let form : OptionName → Form = λ o. option_form verb kind o in
-    let v : OptionName → Value = λ o. value_or_default (option_form verb kind o) (cond (is_named (option_name o) (options_of verb kind)) (text o) None) in
+    let v : OptionName → Value = λ o. value_or_default (option_form verb kind o) (cond (has_option verb kind o) (text o) None) in
     let number : (o : OptionName) → number_or 0 (cond (b o) (Number (number_or 0 (v o))) (default_value (form o))) ≡ number_or 0 (v o) = λ o. number_again 0 (b o) (form o) (text o) in
     let whole : settings_of (kept verb kind (values_of (settings_of v))) ≡ settings_of v = same_fields (kept verb kind (values_of (settings_of v))) v
     (again kind_of (λ x. KindIs (kind_of x)) (λ x. refl) (b options.Kind) (form options.Kind) (text options.Kind))

@@ -6,25 +6,27 @@ use Rattle.std.specs.Option.{option_or, unwrap_or, option_map}
 use Rattle.ann_defs.specs.declared.kinds.Kind.{Kind}
 use Rattle.ann_defs.specs.declared.kinds.Kind.TheVariants.{Vamana, Hnsw, Nnd}
 use Rattle.ann_defs.specs.declared.limits.TheConstants.{MAX_BEAM, MAX_DEGREE, MAX_DIM, MAX_POINTS, MAX_WORKERS}
-use Rattle.annbuild_words.specs.declared.role.SettingName.{SettingName}
-use Rattle.annbuild_words.specs.declared.role.SettingName.TheVariants as settings
-use Rattle.annbuild_words.specs.declared.request.Verb.{Verb}
-use Rattle.annbuild_words.specs.declared.request.Verb.TheVariants as verbs
-use Rattle.annbuild_words.specs.declared.table.OptionName.{OptionName}
-use Rattle.annbuild_words.specs.declared.table.OptionName.TheVariants as options
-use Rattle.annbuild_words.specs.declared.form.Form.{Form}
-use Rattle.annbuild_words.specs.declared.form.Form.TheVariants.{OfNumber, OfFraction, OfKind}
-use Rattle.annbuild_words.specs.declared.form.Range.TheVariants.{Within, ToSearch}
+use Rattle.command_options.specs.declared.setting_name.SettingName.{SettingName}
+use Rattle.command_options.specs.declared.setting_name.SettingName.TheVariants as settings
+use Rattle.command_options.specs.declared.verb.Verb.{Verb}
+use Rattle.command_options.specs.declared.option_name.OptionName.{OptionName}
+use Rattle.command_options.specs.declared.option_name.OptionName.TheVariants as options
+use Rattle.command_options.specs.declared.form.Form.{Form}
+use Rattle.command_options.specs.declared.form.Form.TheVariants.{OfNumber, OfFraction, OfKind}
+use Rattle.command_options.specs.declared.form.Range.TheVariants.{Within, ToSearch}
 use Rattle.annbuild_words.specs.declared.range.OutOfRange.{OutOfRange}
-use Rattle.annbuild_words.specs.declared.value.Value.{Value}
-use Rattle.annbuild_words.specs.declared.value.Value.TheVariants.{ByRule, Number, Fraction, KindIs, PoolIs, OrderIs, StartIs, ElementIs}
+use Rattle.command_options.specs.declared.value.Value.{Value}
+use Rattle.command_options.specs.declared.value.Value.TheVariants.{ByRule, Number, Fraction, KindIs, PoolIs, OrderIs, StartIs, ElementIs}
 use Rattle.annbuild_words.specs.Asked.{kind_said}
-use Rattle.annbuild_words.specs.Forms.{option_form, value_in, value_or_default, greatest_degree, form_of_k, kind_in}
+use Rattle.command_options.specs.Forms.{greatest_degree, form_of_k}
+use Rattle.command_options.specs.Names.{kind_name, first_named}
+use Rattle.annbuild_words.specs.ValueTexts.{value_in, value_or_default}
 use Rattle.annbuild_words.specs.Numbers.{number, fraction}
-use Rattle.annbuild_words.specs.Options.{option_name, every_option, is_named}
-use Rattle.annbuild_words.specs.Rules.{setting, given_text, number_or, kind_code, outside, outside_form, outside_option, first_outside}
-use Rattle.annbuild_words.specs.Settings.{settings_of, values_of, kept, kind_of, numerator, denominator, some_number, IsInRange}
-use Rattle.annbuild_words.specs.Shapes.{options_of, shape_kind, is_exact, is_live}
+use Rattle.command_options.specs.Options.{option_name, every_option}
+use Rattle.command_options.specs.Settings.{number_or, kind_code}
+use Rattle.annbuild_words.specs.Rules.{setting, given_text, outside, outside_form, outside_option, first_outside}
+use Rattle.command_options.specs.Settings.{settings_of, values_of, kept, kind_of, numerator, denominator, some_number, IsInRange}
+use Rattle.command_options.specs.Shapes.{shape_kind, is_exact, is_live}
 use Rattle.annbuild_words.specs.Words.{Item, values_for}
 use Rattle.annbuild_words.proofs.Kept.{kept_settings}
 
@@ -49,14 +51,15 @@ outside_none : (name : SettingName) (value least greatest : ℕ) → outside nam
 outside_none name value least greatest h =
     let t = two_tests (leb least value) (leb value greatest) (chosen (leb least value && leb value greatest) _ h) in (leb-true _ _ t.0, leb-true _ _ t.1)
 
-unwrapped : (o : Option ℕ) (d : ℕ) → (n : ℕ) × (unwrap_or (option_map Number o) (Number d) ≡ Number n)
-unwrapped None d = (d, refl)
-unwrapped (Some n) d = (n, refl)
+-- a value that is written, or the default, is of one kind
+unwrapped : {A : Type 0} (value : A → Value) (o : Option A) (default : A) → (a : A) × (unwrap_or (option_map value o) (value default) ≡ value a)
+unwrapped value None default = (default, refl)
+unwrapped value (Some a) default = (a, refl)
 
 is_number : (name : SettingName) (d least greatest : ℕ) (o : Option (List ℕ)) → (n : ℕ) × (value_or_default (OfNumber (Some d) (Within name least greatest)) o ≡ Number n)
 unfolding value_in
 is_number name d least greatest None = (d, refl)
-is_number name d least greatest (Some text) = unwrapped (number text) d
+is_number name d least greatest (Some text) = unwrapped Number (number text) d
 
 in_bounds : (name : SettingName) (d least greatest search : ℕ) (o : Option (List ℕ)) → outside_form (OfNumber (Some d) (Within name least greatest)) (value_or_default (OfNumber (Some d) (Within name least greatest)) o) search ≡ None
     → (least ≤ number_or 0 (value_or_default (OfNumber (Some d) (Within name least greatest)) o)) × (number_or 0 (value_or_default (OfNumber (Some d) (Within name least greatest)) o) ≤ greatest)
@@ -70,23 +73,15 @@ both_absent : (o p : Option OutOfRange) → option_or o p ≡ None → (o ≡ No
 both_absent None p h = (refl, h)
 both_absent (Some x) p h = cc
 
-pair_unwrapped : (o : Option (ℕ × ℕ)) (num den : ℕ) → (n : ℕ) × ((d : ℕ) × (unwrap_or (option_map (λ p. Fraction p.0 p.1) o) (Fraction num den) ≡ Fraction n d))
-pair_unwrapped None num den = (num, (den, refl))
-pair_unwrapped (Some p) num den = (p.0, (p.1, refl))
-
-is_fraction : (num den greatest : ℕ) (o : Option (List ℕ)) → (n : ℕ) × ((d : ℕ) × (value_or_default (OfFraction num den greatest) o ≡ Fraction n d))
+is_fraction : (num den greatest : ℕ) (o : Option (List ℕ)) → (p : ℕ × ℕ) × (value_or_default (OfFraction num den greatest) o ≡ Fraction p.0 p.1)
 unfolding value_in
-is_fraction num den greatest None = (num, (den, refl))
-is_fraction num den greatest (Some text) = pair_unwrapped (fraction text) num den
-
-kind_unwrapped : (o : Option Kind) (default : Kind) → (kind : Kind) × (unwrap_or (option_map KindIs o) (KindIs default) ≡ KindIs kind)
-kind_unwrapped None default = (default, refl)
-kind_unwrapped (Some kind) default = (kind, refl)
+is_fraction num den greatest None = ((num, den), refl)
+is_fraction num den greatest (Some text) = unwrapped (λ p. Fraction p.0 p.1) (fraction text) (num, den)
 
 is_kind : (default : Kind) (greatest : ℕ) (o : Option (List ℕ)) → (kind : Kind) × (value_or_default (OfKind default greatest) o ≡ KindIs kind)
 unfolding value_in
 is_kind default greatest None = (default, refl)
-is_kind default greatest (Some text) = kind_unwrapped (kind_in text) default
+is_kind default greatest (Some text) = unwrapped KindIs (first_named kind_name (Vamana ∷ Hnsw ∷ Nnd ∷ []) text) default
 
 record IsAlphaInRange (v : Value) (greatest : ℕ) : Type 0 where
   some_den : 1 ≤ denominator v
@@ -98,12 +93,12 @@ alpha_bounds : (num den greatest search : ℕ) (o : Option (List ℕ)) → outsi
 alpha_bounds num den greatest search o h =
     let n = is_fraction num den greatest o in
     let P : Value → Type 0 = λ v. outside_form (OfFraction num den greatest) v search ≡ None → IsAlphaInRange v greatest in
-    let here : P (Fraction n.0 n.1.0) = λ e.
-    let parts = both_absent (outside settings.AlphaDen n.1.0 1 greatest) (outside settings.AlphaNum n.0 n.1.0 greatest) e in
-    let low = outside_none settings.AlphaDen n.1.0 1 greatest parts.0 in
-    let high = outside_none settings.AlphaNum n.0 n.1.0 greatest parts.1 in
+    let here : P (Fraction n.0.0 n.0.1) = λ e.
+    let parts = both_absent (outside settings.AlphaDen n.0.1 1 greatest) (outside settings.AlphaNum n.0.0 n.0.1 greatest) e in
+    let low = outside_none settings.AlphaDen n.0.1 1 greatest parts.0 in
+    let high = outside_none settings.AlphaNum n.0.0 n.0.1 greatest parts.1 in
     record { some_den = low.0; ordered = high.0; num = high.1 } in
-    subst P (sym n.1.1) here h
+    subst P (sym n.1) here h
 
 cap_bounds : (name : SettingName) (least greatest search : ℕ) (v : Value) → outside_form (OfNumber None (Within name least greatest)) v search ≡ None → IfSome (some_number v) (λ cap. (least ≤ cap) × (cap ≤ greatest))
 cap_bounds name least greatest search (Number n) h = outside_none name n least greatest h
@@ -153,26 +148,10 @@ least_degree Vamana n h = h
 least_degree Hnsw n h = omega (arith, h)
 least_degree Nnd n h = h
 
--- --kind is an option of a command for any kind or for none
-kind_named : (verb : Verb) (kind : Kind) → is_named (option_name options.Kind) (options_of verb kind) ≡ is_named (option_name options.Kind) (options_of verb Vamana)
-kind_named verbs.Build kind = refl
-kind_named verbs.Query kind = refl
-kind_named verbs.Check kind = refl
-kind_named verbs.Make kind = refl
-kind_named verbs.Trial kind = refl
-kind_named verbs.Live kind = refl
-kind_named verbs.Exact kind = refl
-kind_named verbs.Recall kind = refl
-kind_named verbs.Forget kind = refl
-kind_named verbs.Without kind = refl
-kind_named verbs.Label kind = refl
-kind_named verbs.Find kind = refl
-
--- so the words say one kind
+-- --kind is an option of a command for any kind or for none, so the words say one kind
 pub same_kind : (verb : Verb) (kind : Kind) (given : List Item) → kind ≡ kind_said verb given → kind_of (setting verb kind given options.Kind) ≡ kind
 unfolding setting kind_said
-same_kind verb kind given is =
-    ap (λ b. kind_of (value_or_default (option_form verb kind options.Kind) (cond b (slice_get (values_for (option_name options.Kind) given) 0) None))) (kind_named verb kind) ∙ sym is
+same_kind verb kind given is = sym is
 
 pub in_range : (verb : Verb) (kind : Kind) (given : List Item) → kind ≡ kind_said verb given → None ≡ first_outside verb kind given → IsInRange verb (settings_of (setting verb kind given))
 unfolding first_outside setting

@@ -3,18 +3,19 @@ use Rattle.std.specs.Prelude.{◌≡◌, ℕ, true, cond, ◌&&◌, List, [], �
 use Rattle.std.specs.Option.{unwrap_or}
 use Rattle.ann_defs.specs.declared.kinds.Kind.{Kind}
 use Rattle.ann_defs.specs.declared.kinds.Kind.TheVariants.{Vamana}
-use Rattle.annbuild_words.specs.declared.role.SettingName.{SettingName}
+use Rattle.command_options.specs.declared.setting_name.SettingName.{SettingName}
 use Rattle.annbuild_words.specs.declared.request.Asked.{Asked}
 use Rattle.annbuild_words.specs.declared.request.Asked.TheVariants.{Nothing, Outside, For}
 use Rattle.annbuild_words.specs.declared.request.Request.{Request}
-use Rattle.annbuild_words.specs.declared.request.Settings.{Settings}
-use Rattle.annbuild_words.specs.declared.request.Verb.{Verb}
-use Rattle.annbuild_words.specs.declared.table.OptionName.TheVariants as options
+use Rattle.command_options.specs.declared.settings.Settings.{Settings}
+use Rattle.command_options.specs.declared.verb.Verb.{Verb}
+use Rattle.command_options.specs.declared.option_name.OptionName.TheVariants as options
 use Rattle.annbuild_words.specs.declared.range.OutOfRange.{OutOfRange}
 use Rattle.annbuild_words.specs.Words.{Item, items, files_of}
-use Rattle.annbuild_words.specs.Shapes.{verb_in, roles_of, is_built}
+use Rattle.command_options.specs.Verbs.{verb_in, roles_of}
+use Rattle.command_options.specs.Shapes.{is_built}
 use Rattle.annbuild_words.specs.Rules.{keeps_rules, setting, first_outside}
-use Rattle.annbuild_words.specs.Settings.{kind_of, settings_of, IsInRange}
+use Rattle.command_options.specs.Settings.{kind_of, settings_of, IsInRange}
 
 -- a command with its file names, in the order of the words, and its settings; a name that it doesn't have is empty
 pub record Command : Type 0 where

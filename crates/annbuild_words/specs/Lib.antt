@@ -1,10 +1,6 @@
 pub mod Words
 pub mod Numbers
-pub mod Names
-pub mod Options
-pub mod Shapes
-pub mod Forms
+pub mod ValueTexts
 pub mod Rules
-pub mod Settings
 pub mod Parts
 pub mod Asked

@@ -3,23 +3,25 @@ use Rattle.std.specs.Prelude.{ℕ, ◌==◌, nat_le, Bool, true, false, cond, �
 use Rattle.std.specs.List.{filter_map, list_all}
 use Rattle.std.specs.Option.{option_or}
 use Rattle.ann_defs.specs.declared.kinds.Kind.{Kind}
-use Rattle.ann_defs.specs.declared.kinds.Kind.TheVariants.{Vamana, Hnsw, Nnd}
-use Rattle.annbuild_words.specs.declared.role.SettingName.{SettingName}
-use Rattle.annbuild_words.specs.declared.role.SettingName.TheVariants as settings
-use Rattle.annbuild_words.specs.declared.request.Verb.{Verb}
-use Rattle.annbuild_words.specs.declared.table.OptionName.{OptionName}
-use Rattle.annbuild_words.specs.declared.table.OptionName.TheVariants.{Search}
-use Rattle.annbuild_words.specs.declared.form.Range.{Range}
-use Rattle.annbuild_words.specs.declared.form.Range.TheVariants.{Every, Within, ToSearch}
-use Rattle.annbuild_words.specs.declared.form.Form.{Form}
-use Rattle.annbuild_words.specs.declared.form.Form.TheVariants.{OfNumber, OfFraction, OfKind}
-use Rattle.annbuild_words.specs.declared.value.Value.{Value}
-use Rattle.annbuild_words.specs.declared.value.Value.TheVariants.{Number, Fraction, KindIs}
+use Rattle.command_options.specs.declared.setting_name.SettingName.{SettingName}
+use Rattle.command_options.specs.declared.setting_name.SettingName.TheVariants as settings
+use Rattle.command_options.specs.declared.verb.Verb.{Verb}
+use Rattle.command_options.specs.declared.option_name.OptionName.{OptionName}
+use Rattle.command_options.specs.declared.option_name.OptionName.TheVariants.{Search}
+use Rattle.command_options.specs.declared.form.Range.{Range}
+use Rattle.command_options.specs.declared.form.Range.TheVariants.{Every, Within, ToSearch}
+use Rattle.command_options.specs.declared.form.Form.{Form}
+use Rattle.command_options.specs.declared.form.Form.TheVariants.{OfNumber, OfFraction, OfKind}
+use Rattle.command_options.specs.declared.value.Value.{Value}
+use Rattle.command_options.specs.declared.value.Value.TheVariants.{Number, Fraction, KindIs}
 use Rattle.annbuild_words.specs.declared.range.OutOfRange.{OutOfRange}
 use Rattle.annbuild_words.specs.Words.{Item, Sets, IsValue, Names, Wrong, values_for, files_of}
-use Rattle.annbuild_words.specs.Options.{option_name, every_option, is_named}
-use Rattle.annbuild_words.specs.Shapes.{roles_of, options_of, is_option_built}
-use Rattle.annbuild_words.specs.Forms.{option_form, value_in, value_or_default}
+use Rattle.command_options.specs.Options.{option_name, every_option, is_named}
+use Rattle.command_options.specs.Verbs.{roles_of}
+use Rattle.command_options.specs.Shapes.{has_option, is_option_built}
+use Rattle.command_options.specs.Forms.{option_form}
+use Rattle.command_options.specs.Settings.{number_or, kind_code}
+use Rattle.annbuild_words.specs.ValueTexts.{value_in, value_or_default}
 
 -- an item that words may have: an option of the table with its value, or a file name that isn't empty
 abbrev pub is_known : Item → Bool
@@ -30,38 +32,27 @@ is_known (Names (b ∷ bytes)) = true
 is_known Wrong = false
 
 -- an option of a command and a kind that the program has
-abbrev pub has_option : Verb → Kind → OptionName → Bool
-has_option verb kind option = is_named (option_name option) (options_of verb kind) && is_option_built option
+abbrev pub may_stand : Verb → Kind → OptionName → Bool
+may_stand verb kind option = has_option verb kind option && is_option_built option
 
 -- no value; or one, where the option may stand and the value is of its kind
-abbrev pub is_set_well : (may_stand : Bool) → Form → List (List ℕ) → Bool
-is_set_well may_stand form [] = true
-is_set_well may_stand form (text ∷ []) = may_stand && is_some (value_in form text)
-is_set_well may_stand form texts = false
+abbrev pub is_set_well : (allowed : Bool) → Form → List (List ℕ) → Bool
+is_set_well allowed form [] = true
+is_set_well allowed form (text ∷ []) = allowed && is_some (value_in form text)
+is_set_well allowed form texts = false
 
 -- words that keep the rules: each is known, each option stands at most once, is one of the command's and has a value of its kind, and there are as many file names as the command has
 unfoldable pub keeps_rules : Verb → Kind → List Item → Bool
-keeps_rules verb kind words = list_all is_known words && (list_all (λ o. is_set_well (has_option verb kind o) (option_form verb kind o) (values_for (option_name o) words)) every_option
+keeps_rules verb kind words = list_all is_known words && (list_all (λ o. is_set_well (may_stand verb kind o) (option_form verb kind o) (values_for (option_name o) words)) every_option
     && length (files_of words) == length (roles_of verb))
 
 -- the text that words give to an option of the command
 abbrev pub given_text : Verb → Kind → List Item → OptionName → Option (List ℕ)
-given_text verb kind words option = cond (is_named (option_name option) (options_of verb kind)) (slice_get (values_for (option_name option) words) 0) None
+given_text verb kind words option = cond (has_option verb kind option) (slice_get (values_for (option_name option) words) 0) None
 
 -- the value of a setting
 unfoldable pub setting : Verb → Kind → List Item → OptionName → Value
 setting verb kind words option = value_or_default (option_form verb kind option) (given_text verb kind words option)
-
--- the number of a value, or another where it has none
-abbrev pub number_or : ℕ → Value → ℕ
-number_or other (Number n) = n
-number_or other value = other
-
--- the number that stands for a kind of index
-abbrev pub kind_code : Kind → ℕ
-kind_code Vamana = 1
-kind_code Hnsw = 2
-kind_code Nnd = 3
 
 -- a number that is out of its range
 abbrev pub outside : SettingName → (value least greatest : ℕ) → Option OutOfRange

@@ -4,16 +4,13 @@ ghost use Rattle.std.specs.List.{list_all, list_any};
 ghost use Rattle.std.specs.Option.{option_copied};
 ghost use Rattle.std.specs.Str.{bytes_eq};
 ghost use Rattle.annbuild_words.specs.Words.{value_for, file_of, values_for, files_of};
-ghost use Rattle.annbuild_words.specs.Options.{option_name, is_named, every_option};
-ghost use Rattle.annbuild_words.specs.Rules.{is_known, has_option};
+ghost use Rattle.command_options.specs.Options.{option_name, is_named, every_option};
+ghost use Rattle.annbuild_words.specs.Rules.{is_known, may_stand};
 ghost use Rattle.annbuild_words.specs.Parts.{item_of, items_of};
 
-use crate::Verb;
 use crate::item::Part;
-use crate::options::options_of;
-use crate::shape::is_option_built;
-use crate::table::{OPTIONS, OptionName, name_of};
 use ann_defs::Kind;
+use command_options::{OPTIONS, OptionName, Verb, has_option, is_option_built, name_of};
 
 /// The value that a part sets for an option.
 fn value_set<'w>(part: Part<'w>, name: &str) -> Option<&'w str>
@@ -85,18 +82,18 @@ pub fn count_files(parts: &[Part<'_>]) -> usize
     count
 }
 
-/// Whether one of these options has this name.
-pub fn is_named(name: &str, options: &[OptionName]) -> bool
-    ensures { result ≡ is_named name.now options.now }
+/// Whether an option of the table has this name.
+fn is_of_table(name: &str) -> bool
+    ensures { result ≡ is_named name.now every_option }
 {
-    options.iter().any(|option| name == name_of(*option))
+    OPTIONS.iter().any(|option| name == name_of(*option))
 }
 
 /// Whether a command has an option for a kind, and the program has the option.
-pub fn has_option(verb: Verb, kind: Kind, option: OptionName) -> bool
-    ensures { result ≡ has_option verb kind option }
+pub fn may_stand(verb: Verb, kind: Kind, option: OptionName) -> bool
+    ensures { result ≡ may_stand verb kind option }
 {
-    is_named(name_of(option), options_of(verb, kind)) && is_option_built(option)
+    has_option(verb, kind, option) && is_option_built(option)
 }
 
 /// Whether words may have a part: an option of the table with its value, or a file name that isn't empty.
@@ -104,7 +101,7 @@ fn is_part_known(part: Part<'_>) -> bool
     ensures { result ≡ is_known (item_of part.entry) }
 {
     match part {
-        Part::Sets { name, .. } => is_named(name, &OPTIONS),
+        Part::Sets { name, .. } => is_of_table(name),
         Part::IsValue => true,
         Part::Names(file) => !file.is_empty(),
         Part::Wrong => false,

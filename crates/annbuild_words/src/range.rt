@@ -1,12 +1,11 @@
 //! The settings' ranges.
 ghost use Rattle.std.specs.Prelude.{◌≡◌};
 ghost use Rattle.std.specs.Option.{option_or};
-ghost use Rattle.annbuild_words.specs.Rules.{number_or, kind_code, outside, outside_range, outside_form};
+ghost use Rattle.command_options.specs.Settings.{kind_code};
+ghost use Rattle.annbuild_words.specs.Rules.{outside, outside_range, outside_form};
 
-use crate::SettingName;
-use crate::form::{Form, Range};
-use crate::value::Value;
 use ann_defs::Kind;
+use command_options::{Form, Range, SettingName, Value};
 
 /// A setting that is out of its range.
 #[derive(Clone, Copy)]
@@ -15,16 +14,6 @@ pub struct OutOfRange {
     pub value: u64,
     pub least: u64,
     pub greatest: u64,
-}
-
-/// The number of a value, or another where it has none.
-pub fn number_of(value: Value, other: u64) -> u64
-    ensures { result ≡ number_or other value }
-{
-    match value {
-        Value::Number(n) => n,
-        _ => other,
-    }
 }
 
 /// A number, if it is out of its range.

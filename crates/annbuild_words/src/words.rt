@@ -2,25 +2,24 @@
 ghost use Rattle.std.specs.Prelude.{◌≡◌, ◌&&◌, map, slice_get, string_bytes};
 ghost use Rattle.std.specs.List.{list_all, filter_map};
 ghost use Rattle.annbuild_words.specs.Asked.{seen, request_of, file_at, checked, named, meaning_by, meaning_of, kind_said, OnMeaning, IsAllowed};
-ghost use Rattle.annbuild_words.specs.Forms.{option_form};
-ghost use Rattle.annbuild_words.specs.Options.{option_name, every_option};
+ghost use Rattle.command_options.specs.Forms.{option_form};
+ghost use Rattle.command_options.specs.Options.{option_name, every_option};
 ghost use Rattle.annbuild_words.specs.Parts.{items_of, texts};
-ghost use Rattle.annbuild_words.specs.Rules.{is_set_well, has_option, keeps_rules, outside_option, first_outside};
-ghost use Rattle.annbuild_words.specs.Settings.{settings_of};
+ghost use Rattle.annbuild_words.specs.Rules.{is_set_well, may_stand, keeps_rules, outside_option, first_outside};
+ghost use Rattle.command_options.specs.Settings.{settings_of};
 ghost use Rattle.annbuild_words.specs.Rules as rules;
 ghost use Rattle.annbuild_words.specs.Words.{items, values_for, files_of};
 
-use crate::form::form_of;
-use crate::given::{are_known, count_files, file_at, given_at, has_option, is_named};
+use crate::given::{are_known, count_files, file_at, given_at, may_stand};
 use crate::item::{Part, cut};
-use crate::options::options_of;
-use crate::range::{OutOfRange, number_of, value_outside};
-use crate::settings::{Values, kind_in_value, settings_of};
-use crate::shape::{is_built, read_verb, roles_of};
-use crate::table::{OPTIONS, OptionName, name_of};
-use crate::value::{Value, or_default, read_value};
-use crate::{Asked, Names, Request, Verb};
+use crate::range::{OutOfRange, value_outside};
+use crate::value::{or_default, read_value};
+use crate::{Asked, Names, Request};
 use ann_defs::Kind;
+use command_options::{
+    OPTIONS, OptionName, Value, Values, Verb, form_of, has_option, is_built, kind_in_value,
+    name_of, number_of, read_verb, roles_of, settings_of,
+};
 
 /// The parts of the words after a command, which has options of a kind.
 #[derive(Clone, Copy)]
@@ -36,9 +35,8 @@ impl<'b, 'w> Values for Given<'b, 'w> {
     #[tactic(auto, unfolding(crate::specs::Rules::setting))]
     fn value(&self, option: OptionName) -> Value {
         let form = form_of(self.verb, self.kind, option);
-        let name = name_of(option);
-        if is_named(name, options_of(self.verb, self.kind)) {
-            return or_default(form, given_at(self.parts, name, 0));
+        if has_option(self.verb, self.kind, option) {
+            return or_default(form, given_at(self.parts, name_of(option), 0));
         }
         or_default(form, None)
     }
@@ -47,7 +45,7 @@ impl<'b, 'w> Values for Given<'b, 'w> {
 impl<'b, 'w> Given<'b, 'w> {
     /// Whether an option is set at most once, and then is one that the command has, with a value of its kind.
     fn is_set_well(&self, option: OptionName) -> bool
-        ensures { result ≡ is_set_well (has_option self.now.verb self.now.kind option) (option_form self.now.verb self.now.kind option) (values_for (option_name option) (items_of self.now.parts.now)) }
+        ensures { result ≡ is_set_well (may_stand self.now.verb self.now.kind option) (option_form self.now.verb self.now.kind option) (values_for (option_name option) (items_of self.now.parts.now)) }
     {
         let name = name_of(option);
         let Some(text) = given_at(self.parts, name, 0) else {
@@ -56,13 +54,13 @@ impl<'b, 'w> Given<'b, 'w> {
         if given_at(self.parts, name, 1).is_some() {
             return false;
         }
-        has_option(self.verb, self.kind, option)
+        may_stand(self.verb, self.kind, option)
             && read_value(form_of(self.verb, self.kind, option), text).is_some()
     }
 
     /// Whether each of these options is.
     fn are_set_well(&self, options: &[OptionName]) -> bool
-        ensures { result ≡ list_all (λ o. is_set_well (has_option self.now.verb self.now.kind o) (option_form self.now.verb self.now.kind o) (values_for (option_name o) (items_of self.now.parts.now))) options.now }
+        ensures { result ≡ list_all (λ o. is_set_well (may_stand self.now.verb self.now.kind o) (option_form self.now.verb self.now.kind o) (values_for (option_name o) (items_of self.now.parts.now))) options.now }
     {
         for option in options {
             if !self.is_set_well(*option) {

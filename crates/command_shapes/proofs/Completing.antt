@@ -3,7 +3,7 @@ use Rattle.std.proofs.Common.{◌≡◌, ℕ, List, [], ◌∷◌, refl, sym, su
 use Rattle.ann_shelf.specs.Files.{Files}
 use Rattle.annbuild_lines.specs.declared.fault.Fault.{Fault}
 use Rattle.annbuild_lines.specs.declared.fault.Fault.TheVariants.{Usage, Setting, Read, Malformed, Unfit, Write, NoMemory, TooLarge}
-use Rattle.annbuild_words.specs.declared.role.Role.{Role}
+use Rattle.command_options.specs.declared.role.Role.{Role}
 use Rattle.command_shapes.specs.Doing.{Reads, Stored, Doing, refusal_of}
 use Rattle.command_shapes.specs.Clauses.{IsToldBy, IsReadOf, IsStoreOf, IsWriteOf, HasCauseOf, AreQuiet, IsQuietOf, IsShownOrNoMemory}
 

@@ -7,8 +7,8 @@ use Rattle.ann_shelf.specs.Faults.{Rose}
 use Rattle.ann_shelf.specs.Files.{Files}
 use Rattle.annbuild_lines.specs.declared.fault.Fault.{Fault}
 use Rattle.annbuild_lines.specs.declared.fault.Fault.TheVariants.{Usage, Setting, Read, Malformed, Unfit, Write, NoMemory, TooLarge}
-use Rattle.annbuild_words.specs.declared.role.Role.{Role}
-use Rattle.annbuild_words.specs.declared.role.Role.TheVariants.{Base, Index, Queries, Output, Gone, Fresh, Labels}
+use Rattle.command_options.specs.declared.role.Role.{Role}
+use Rattle.command_options.specs.declared.role.Role.TheVariants.{Base, Index, Queries, Output, Gone, Fresh, Labels}
 use Rattle.bin_files.proofs.Pieces.{both_told, told_then}
 use Rattle.ann_shelf.specs.Shown.{Shown}
 use Rattle.ann_shelf.specs.Written.{Got}

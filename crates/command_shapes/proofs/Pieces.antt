@@ -9,7 +9,7 @@ use Rattle.ann_shelf.specs.Faults.{Rose}
 use Rattle.ann_shelf.specs.Written.{GotSome}
 use Rattle.annbuild_lines.specs.declared.fault.Fault.{Fault}
 use Rattle.annbuild_lines.specs.declared.fault.Fault.TheVariants.{Usage, Setting, Read, Malformed, Unfit, Write, NoMemory, TooLarge}
-use Rattle.annbuild_words.specs.declared.role.Role.TheVariants.{Base, Index, Queries, Output, Gone, Fresh, Labels}
+use Rattle.command_options.specs.declared.role.Role.TheVariants.{Base, Index, Queries, Output, Gone, Fresh, Labels}
 use Rattle.bin_files.proofs.Pieces.{told_then}
 use Rattle.ann_shelf.specs.Written.{Got}
 use Rattle.command_shapes.specs.Clauses.{GotPieces}

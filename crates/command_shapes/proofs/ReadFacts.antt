@@ -3,7 +3,7 @@ use Rattle.std.proofs.Common.{◌≡◌, ◌∙◌, ◌≤◌, ℕ, List, [], �
 use Rattle.std.specs.Option.{option_or}
 use Rattle.ann_shelf.specs.Files.{Files}
 use Rattle.annbuild_lines.specs.declared.fault.Fault.{Fault}
-use Rattle.annbuild_words.specs.declared.role.Role.{Role}
+use Rattle.command_options.specs.declared.role.Role.{Role}
 use Rattle.bin_files.proofs.Pieces.{both_told}
 use Rattle.ann_shelf.specs.Shown.{Shown}
 use Rattle.command_shapes.specs.Doing.{Reads, first_refused}

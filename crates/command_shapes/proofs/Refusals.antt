@@ -12,7 +12,7 @@ use Rattle.graph_files.specs.declared.fault.IndexFault.TheVariants.{Read as Inde
 use Rattle.graph_rows.specs.Index.{Contents}
 use Rattle.graph_files.specs.Reading.{Fails}
 use Rattle.graph_files.specs.Grammar.{index_in, verdict as index_verdict}
-use Rattle.annbuild_words.specs.declared.role.Role.{Role}
+use Rattle.command_options.specs.declared.role.Role.{Role}
 use Rattle.command_shapes.specs.Faults.{points_fault_of, index_fault_of, points_refusal, index_refusal}
 use Rattle.command_shapes.specs.Reading.{IsOfReading, IsReadFault}
 use Rattle.command_shapes.specs.Doing.{Reads, first_refused}

@@ -5,8 +5,8 @@ use Rattle.ann_shelf.specs.Files.{Files}
 use Rattle.ann_shelf.specs.Written.{GotSome}
 use Rattle.annbuild_lines.specs.declared.fault.Fault.{Fault}
 use Rattle.annbuild_lines.specs.declared.fault.Fault.TheVariants.{Usage, Setting, Read, Malformed, Unfit, Write, NoMemory, TooLarge}
-use Rattle.annbuild_words.specs.declared.role.Role.{Role}
-use Rattle.annbuild_words.specs.declared.role.Role.TheVariants.{Output}
+use Rattle.command_options.specs.declared.role.Role.{Role}
+use Rattle.command_options.specs.declared.role.Role.TheVariants.{Output}
 use Rattle.command_shapes.specs.Doing.{Reads, Stored, Doing, refusal_of, files_then, printed_of}
 
 -- what stands on the shelf when the command is done

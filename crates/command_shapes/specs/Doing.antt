@@ -4,7 +4,7 @@ use Rattle.std.specs.List.{concat}
 use Rattle.std.specs.Option.{option_or}
 use Rattle.ann_shelf.specs.Files.{Files, with_file}
 use Rattle.annbuild_lines.specs.declared.fault.Fault.{Fault}
-use Rattle.annbuild_words.specs.declared.role.Role.{Role}
+use Rattle.command_options.specs.declared.role.Role.{Role}
 
 -- a file that is read, and the refusal that the files show when its turn comes; it may depend on files that are read earlier
 pub record Reads : Type 0 where

@@ -11,7 +11,7 @@ use Rattle.graph_files.specs.declared.fault.IndexFault.TheVariants.{Read as Inde
 use Rattle.graph_files.specs.Grammar.{verdict as index_verdict}
 use Rattle.annbuild_lines.specs.declared.fault.Fault.{Fault}
 use Rattle.annbuild_lines.specs.declared.fault.Fault.TheVariants.{Read, Malformed, Write, NoMemory, TooLarge}
-use Rattle.annbuild_words.specs.declared.role.Role.{Role}
+use Rattle.command_options.specs.declared.role.Role.{Role}
 use Rattle.annbuild_lines.specs.declared.fault.Rule.TheVariants.{Points, Index}
 
 -- a fault of a file of points

@@ -9,7 +9,7 @@ use Rattle.graph_rows.specs.Index.{Contents}
 use Rattle.graph_files.specs.Grammar.{index_in}
 use Rattle.annbuild_lines.specs.declared.fault.Fault.{Fault}
 use Rattle.annbuild_lines.specs.declared.fault.Fault.TheVariants.{Read, Malformed, NoMemory, TooLarge}
-use Rattle.annbuild_words.specs.declared.role.Role.{Role}
+use Rattle.command_options.specs.declared.role.Role.{Role}
 use Rattle.command_shapes.specs.Doing.{Reads}
 use Rattle.command_shapes.specs.Faults.{points_refusal, index_refusal}
 

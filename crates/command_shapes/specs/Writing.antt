@@ -5,8 +5,8 @@ use Rattle.ann_shelf.specs.Faults.{Rose}
 use Rattle.ann_shelf.specs.Written.{GotSome}
 use Rattle.annbuild_lines.specs.declared.fault.Fault.{Fault}
 use Rattle.annbuild_lines.specs.declared.fault.Fault.TheVariants.{Write, NoMemory}
-use Rattle.annbuild_words.specs.declared.role.Role.{Role}
-use Rattle.annbuild_words.specs.declared.role.Role.TheVariants.{Output}
+use Rattle.command_options.specs.declared.role.Role.{Role}
+use Rattle.command_options.specs.declared.role.Role.TheVariants.{Output}
 use Rattle.ann_shelf.specs.Written.{Got}
 use Rattle.command_shapes.specs.Doing.{Stored, Doing}
 use Rattle.command_shapes.specs.Clauses.{GotBeforeMemory}

@@ -4,7 +4,7 @@ ghost use Rattle.command_shapes.specs.Faults.{points_fault_of, index_fault_of, w
 
 use ann_shelf::Slip;
 use annbuild_lines::{Fault, Rule};
-use annbuild_words::Role;
+use command_options::Role;
 use bin_files::PointsFault;
 use graph_files::IndexFault;
 

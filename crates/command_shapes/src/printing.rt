@@ -7,7 +7,7 @@ ghost use Rattle.command_shapes.specs.Writing.{Printed};
 use crate::faults::write_fault;
 use ann_shelf::{Out, write_all};
 use annbuild_lines::Fault;
-use annbuild_words::Role;
+use command_options::Role;
 
 /// Prints a piece, and takes no memory of its own.
 pub fn print<O: Out>(out: &mut O, piece: &[u8]) -> Result<(), Fault>

@@ -13,7 +13,7 @@ use crate::faults::write_fault;
 use crate::printing::print;
 use ann_shelf::{Out, Shelf, Slip};
 use annbuild_lines::Fault;
-use annbuild_words::Role;
+use command_options::Role;
 use bin_files::{Points, write_points};
 use graph_files::{Index, write_index};
 

@@ -3,7 +3,7 @@ use Rattle.std.proofs.lemmas.Result.{IfOk-weaker}
 use Rattle.clap.specs.Words.{subcommand_of}
 use Rattle.annbuild_words.specs.Asked.{Command, command_of}
 use Rattle.annbuild_words.specs.Parts.{texts}
-use Rattle.annbuild_words.specs.Settings.{IsInRange}
+use Rattle.command_options.specs.Settings.{IsInRange}
 use Rattle.annbuild_clap.specs.Canonical.{canonical_words}
 use Rattle.annbuild_clap.specs.Program.{program, command_in}
 use Rattle.annbuild_clap.proofs.ByClap.{taken, back, some_command, on_command, same_command}

@@ -1,7 +1,7 @@
 use Rattle.std.proofs.Common.{◌≡◌, Some, IfSome, sym, subst}
 use Rattle.clap.specs.Words.{found_of, rows_of, subcommand_rows_of}
 use Rattle.annbuild_words.specs.Asked.{Command}
-use Rattle.annbuild_words.specs.Settings.{IsInRange}
+use Rattle.command_options.specs.Settings.{IsInRange}
 use Rattle.annbuild_clap.specs.Program.{command_by, command_in}
 use Rattle.annbuild_clap.proofs.ByClap.{command_named, met}
 use Rattle.annbuild_clap.proofs.through_clap.request_in.Goals as goal

@@ -2,7 +2,7 @@ use Rattle.std.proofs.Common.{◌∙◌, [], ◌∷◌, true, subst, Some}
 use Rattle.bin_files.proofs.Pieces.{told_then}
 use Rattle.graph_rows.specs.View.{contents}
 use Rattle.graph_rows.specs.Index.{text_of}
-use Rattle.annbuild_words.specs.declared.role.Role.TheVariants.{Index}
+use Rattle.command_options.specs.declared.role.Role.TheVariants.{Index}
 use Rattle.command_shapes.specs.Ends.{Ends, fault_in}
 use Rattle.command_shapes.specs.Writing.{stored_as}
 use Rattle.command_shapes.proofs.Told.{fault_passed}

@@ -2,7 +2,7 @@ use Rattle.std.proofs.Common.{◌≡◌, ◌∙◌, ◌+◌, ◌*◌, [], refl, 
 use Rattle.ann_shelf.specs.Files.{bytes_of}
 use Rattle.bin_files.proofs.Pieces.{told_then}
 use Rattle.ann_defs.specs.Distance.{PointSet}
-use Rattle.annbuild_words.specs.declared.role.Role.TheVariants.{Base}
+use Rattle.command_options.specs.declared.role.Role.TheVariants.{Base}
 use Rattle.ann_shelf.specs.Written.{Got}
 use Rattle.command_shapes.specs.Ends.{Ends}
 use Rattle.command_shapes.specs.Reading.{points_read, points_in}

@@ -1,7 +1,7 @@
 use Rattle.std.proofs.Common.{◌∙◌, [], ◌∷◌, refl, subst, Some, IfSome}
 use Rattle.ann_shelf.specs.Files.{bytes_of}
 use Rattle.graph_rows.specs.View.{contents}
-use Rattle.annbuild_words.specs.declared.role.Role.TheVariants.{Base, Index, Queries}
+use Rattle.command_options.specs.declared.role.Role.TheVariants.{Base, Index, Queries}
 use Rattle.ann_shelf.specs.Written.{Got}
 use Rattle.command_shapes.specs.Ends.{Ends}
 use Rattle.command_shapes.specs.Reading.{AreOf, IsOf, points_read, index_read}

@@ -2,7 +2,7 @@ use Rattle.std.proofs.Common.{◌∙◌, sym, refl, Some}
 use Rattle.ann_shelf.specs.Files.{bytes_of}
 use Rattle.bin_files.proofs.Pieces.{both_told}
 use Rattle.graph_rows.specs.View.{contents}
-use Rattle.annbuild_words.specs.declared.role.Role.TheVariants.{Base, Index}
+use Rattle.command_options.specs.declared.role.Role.TheVariants.{Base, Index}
 use Rattle.ann_shelf.specs.Written.{Got}
 use Rattle.command_shapes.specs.Ends.{Ends}
 use Rattle.command_shapes.specs.Reading.{AreOf, IsOf}

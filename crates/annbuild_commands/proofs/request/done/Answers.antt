@@ -1,5 +1,5 @@
 use Rattle.std.proofs.Common.{rules, sym, subst}
-use Rattle.annbuild_words.specs.Settings.{IsInRange}
+use Rattle.command_options.specs.Settings.{IsInRange}
 use Rattle.command_shapes.specs.Ends.{Ends, fault_in}
 use Rattle.annbuild_commands.specs.Commands.{doing_by}
 use Rattle.annbuild_commands.proofs.request.done.Goals as goal

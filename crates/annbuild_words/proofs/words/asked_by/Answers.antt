@@ -1,8 +1,9 @@
 use Rattle.std.proofs.Common.{◌≡◌, ℕ, List, [], ◌∷◌, length, drop, refl, ap, sym, subst, ◌∙◌}
 use Rattle.annbuild_words.specs.Parts.{items_of}
-use Rattle.annbuild_words.specs.Settings.{IsInRange}
+use Rattle.command_options.specs.Settings.{IsInRange}
 use Rattle.annbuild_words.specs.Asked.{file_at}
-use Rattle.annbuild_words.specs.Shapes.{is_built, roles_of}
+use Rattle.command_options.specs.Verbs.{roles_of}
+use Rattle.command_options.specs.Shapes.{is_built}
 use Rattle.annbuild_words.specs.Words.{files_of}
 use Rattle.annbuild_words.proofs.FewWords.{few_names, names_counted}
 use Rattle.annbuild_words.proofs.SpareNames.{spare}

@@ -2,8 +2,8 @@ use Rattle.std.proofs.Common.{◌≡◌, ap, ap₂, ◌∙◌}
 use Rattle.std.specs.Option.{option_copied}
 use Rattle.clap.specs.Words.{found_of, first_of, rows_of}
 use Rattle.clap.proofs.WalkLemmas.{first_value-rows}
-use Rattle.annbuild_words.specs.Forms.{value_or_default}
-use Rattle.annbuild_words.specs.Options.{long_name}
+use Rattle.annbuild_words.specs.ValueTexts.{value_or_default}
+use Rattle.command_options.specs.Options.{long_name}
 use Rattle.annbuild_clap.proofs.through_clap.MatchesValues.value.Goals as goal
 
 pub returns : goal.returns

@@ -1,6 +1,6 @@
 //! The options, in the order of the option table, and their names.
-ghost use Rattle.std.specs.Prelude.{◌≡◌};
-ghost use Rattle.annbuild_words.specs.Options.{option_name, long_name};
+ghost use Rattle.std.specs.Prelude.{◌≡◌, ◌∷◌};
+ghost use Rattle.command_options.specs.Options.{option_name, long_name};
 
 /// An option.
 #[derive(Clone, Copy)]
@@ -67,7 +67,8 @@ pub const OPTIONS: [OptionName; 27] = [
 
 /// The name of an option, as words write it.
 pub fn name_of(option: OptionName) -> &'static str
-    ensures { result.now ≡ option_name option }
+    ensures name { result.now ≡ option_name option }
+    ensures dashed { result.now ≡ 45 ∷ 45 ∷ long_name option }
 {
     match option {
         OptionName::Kind => "--kind",
@@ -104,33 +105,11 @@ pub fn name_of(option: OptionName) -> &'static str
 pub fn long_of(option: OptionName) -> &'static str
     ensures { result.now ≡ long_name option }
 {
-    match option {
-        OptionName::Kind => "kind",
-        OptionName::Workers => "workers",
-        OptionName::Pool => "pool",
-        OptionName::Seed => "seed",
-        OptionName::Order => "order",
-        OptionName::Start => "start",
-        OptionName::Degree => "degree",
-        OptionName::Beam => "beam",
-        OptionName::Alpha => "alpha",
-        OptionName::Cap => "cap",
-        OptionName::Passes => "passes",
-        OptionName::Bits => "bits",
-        OptionName::MaxLevel => "max-level",
-        OptionName::List => "list",
-        OptionName::Trees => "trees",
-        OptionName::Leaf => "leaf",
-        OptionName::Rounds => "rounds",
-        OptionName::Floor => "floor",
-        OptionName::Format => "format",
-        OptionName::Count => "count",
-        OptionName::Dim => "dim",
-        OptionName::Queries => "queries",
-        OptionName::Search => "search",
-        OptionName::K => "k",
-        OptionName::Callers => "callers",
-        OptionName::Label => "label",
-        OptionName::Type => "type",
-    }
+    let Some(rest) = name_of(option).strip_prefix('-') else {
+        unreachable!()
+    };
+    let Some(name) = rest.strip_prefix('-') else {
+        unreachable!()
+    };
+    name
 }

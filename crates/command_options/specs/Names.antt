@@ -1,5 +1,6 @@
--- What words and lines call files and choices.
-use Rattle.std.specs.Prelude.{ℕ, List, codes}
+-- What words and lines call files and choices, and the choice that a word names.
+use Rattle.std.specs.Prelude.{ℕ, cond, List, [], ◌∷◌, Option, Some, None, codes}
+use Rattle.std.specs.Str.{bytes_eq}
 use Rattle.ann_defs.specs.declared.kinds.Element.{Element}
 use Rattle.ann_defs.specs.declared.kinds.Element.TheVariants.{U8, I8}
 use Rattle.ann_defs.specs.declared.kinds.Kind.{Kind}
@@ -10,8 +11,8 @@ use Rattle.ann_defs.specs.declared.kinds.StartKind.{StartKind}
 use Rattle.ann_defs.specs.declared.kinds.StartKind.TheVariants.{First, Medoid}
 use Rattle.ann_defs.specs.declared.kinds.Way.{Way}
 use Rattle.ann_defs.specs.declared.kinds.Way.TheVariants.{Serial, Shares, Stealing}
-use Rattle.annbuild_words.specs.declared.role.Role.{Role}
-use Rattle.annbuild_words.specs.declared.role.Role.TheVariants as roles
+use Rattle.command_options.specs.declared.role.Role.{Role}
+use Rattle.command_options.specs.declared.role.Role.TheVariants as roles
 
 abbrev pub role_name : Role → List ℕ
 role_name roles.Base = codes "data"
@@ -43,3 +44,8 @@ start_name Medoid = codes "medoid"
 abbrev pub element_name : Element → List ℕ
 element_name U8 = codes "u8"
 element_name I8 = codes "i8"
+
+-- the first of these choices that has this name
+abbrev pub first_named : {A : Type 0} → (A → List ℕ) → List A → List ℕ → Option A
+first_named name [] word = None
+first_named name (choice ∷ more) word = cond (bytes_eq word (name choice)) (Some choice) (first_named name more word)

@@ -2,8 +2,8 @@
 use Rattle.std.specs.Prelude.{ℕ, Bool, List, [], ◌∷◌, codes, drop}
 use Rattle.std.specs.List.{list_any}
 use Rattle.std.specs.Str.{bytes_eq}
-use Rattle.annbuild_words.specs.declared.table.OptionName.{OptionName}
-use Rattle.annbuild_words.specs.declared.table.OptionName.TheVariants as options
+use Rattle.command_options.specs.declared.option_name.OptionName.{OptionName}
+use Rattle.command_options.specs.declared.option_name.OptionName.TheVariants as options
 
 -- an option's name
 abbrev pub option_name : OptionName → List ℕ

@@ -1,10 +1,26 @@
-//! The shape of each command, and what the program does today.
+//! The commands, their names, and the files that their words name.
 ghost use Rattle.std.specs.Prelude.{◌≡◌};
-ghost use Rattle.annbuild_words.specs.Shapes.{verb_name, verb_among, verb_in, roles_of, shape_kind, is_exact, is_live, is_built, is_option_built};
+ghost use Rattle.command_options.specs.Verbs.{verb_name, verb_in, roles_of};
 
-use crate::table::OptionName;
-use crate::{Role, Verb};
-use ann_defs::Kind;
+use crate::Role;
+use crate::names::{Named, find_named};
+
+/// A command.
+#[derive(Clone, Copy, Debug, PartialEq, Eq)]
+pub enum Verb {
+    Build,
+    Query,
+    Check,
+    Make,
+    Trial,
+    Live,
+    Exact,
+    Recall,
+    Forget,
+    Without,
+    Label,
+    Find,
+}
 
 /// All commands.
 pub const VERBS: [Verb; 12] = [
@@ -42,23 +58,19 @@ pub fn verb_text(verb: Verb) -> &'static str
     }
 }
 
-/// The first of these commands that has this name.
-fn verb_among(verbs: &[Verb], word: &str) -> Option<Verb>
-    ensures { result ≡ verb_among verbs.now word.now }
-{
-    for verb in verbs {
-        if word == verb_text(*verb) {
-            return Some(*verb);
-        }
+impl Named for Verb {
+    ghost name_of = { verb_name };
+
+    fn text(&self) -> &'static str {
+        verb_text(*self)
     }
-    None
 }
 
 /// The command that a word names.
 pub fn read_verb(word: &str) -> Option<Verb>
     ensures { result ≡ verb_in word.now }
 {
-    verb_among(&VERBS, word)
+    find_named(&VERBS, word)
 }
 
 /// The files that a command's words name, in order.
@@ -78,50 +90,5 @@ pub fn roles_of(verb: Verb) -> &'static [Role]
         Verb::Without => &[Role::Base, Role::Index, Role::Gone, Role::Queries],
         Verb::Label => &[Role::Base, Role::Labels, Role::Index],
         Verb::Find => &[Role::Base, Role::Labels, Role::Index, Role::Queries],
-    }
-}
-
-/// The kind by which a command has its options: the one that `--kind` says, in the commands that build any kind.
-pub fn shape_kind(verb: Verb, kind: Kind) -> Kind
-    ensures { result ≡ shape_kind verb kind }
-{
-    match verb {
-        Verb::Build | Verb::Trial => kind,
-        _ => Kind::Vamana,
-    }
-}
-
-/// Whether a command has `--k` without a search list.
-pub fn is_exact(verb: Verb) -> bool
-    ensures { result ≡ is_exact verb }
-{
-    matches!(verb, Verb::Exact)
-}
-
-/// Whether a command builds one kind alone.
-pub fn is_live(verb: Verb) -> bool
-    ensures { result ≡ is_live verb }
-{
-    matches!(verb, Verb::Live)
-}
-
-/// Whether the program has a command for a kind today. Others mean no request.
-pub fn is_built(verb: Verb, kind: Kind) -> bool
-    ensures { result ≡ is_built verb kind }
-{
-    match verb {
-        Verb::Build => matches!(kind, Kind::Vamana),
-        Verb::Query => true,
-        _ => false,
-    }
-}
-
-/// The same of options.
-pub fn is_option_built(option: OptionName) -> bool
-    ensures { result ≡ is_option_built option }
-{
-    match option {
-        OptionName::Kind | OptionName::Passes | OptionName::Format | OptionName::Type => false,
-        _ => true,
     }
 }

@@ -1,14 +1,11 @@
 //! The settings of a request, from the values of the options, and back.
 ghost use Rattle.std.specs.Prelude.{◌≡◌, ◌<◌, ◌^◌, IfSome};
-ghost use Rattle.annbuild_words.specs.declared.table.OptionName.{OptionName};
-ghost use Rattle.annbuild_words.specs.declared.value.Value.{Value};
-ghost use Rattle.annbuild_words.specs.Rules.{number_or};
-ghost use Rattle.annbuild_words.specs.Settings.{settings_of, values_of, kind_of, pool_of, order_of, start_of, element_of, numerator, denominator, some_number, IsInRange};
+ghost use Rattle.command_options.specs.declared.option_name.OptionName.{OptionName};
+ghost use Rattle.command_options.specs.declared.value.Value.{Value};
+ghost use Rattle.command_options.specs.Settings.{number_or, settings_of, values_of, kind_of, pool_of, order_of, start_of, element_of, numerator, denominator, some_number, IsInRange};
 
-use crate::range::number_of;
-use crate::table::OptionName;
-use crate::value::Value;
-use crate::{Settings, Verb};
+use crate::value::number_of;
+use crate::{OptionName, Settings, Value, Verb};
 use ann_defs::{Element, Kind, OrderKind, StartKind, Way};
 
 /// What gives the values of the options.
@@ -177,7 +174,7 @@ pub fn settings_of<V: Values>(verb: Verb, given: &V) -> Settings
         dim: small(given.value(OptionName::Dim), 0),
         queries: small(given.value(OptionName::Queries), 0),
         search: search as u32,
-        k: small(given.value(OptionName::K), search.min(10)),
+        k: small(given.value(OptionName::K), 10_u64.min(search)),
         callers: small(given.value(OptionName::Callers), 0),
         label: small(given.value(OptionName::Label), 0),
         element: element_in_value(given.value(OptionName::Type)),

@@ -1,11 +1,10 @@
 //! The kinds of values of the options, with their defaults and ranges.
 ghost use Rattle.std.specs.Prelude.{◌≡◌, Some};
-ghost use Rattle.annbuild_words.specs.Shapes.{is_exact};
-ghost use Rattle.annbuild_words.specs.Forms.{default_degree, greatest_degree, form_of_k, option_form};
+ghost use Rattle.command_options.specs.Shapes.{is_exact};
+ghost use Rattle.command_options.specs.Forms.{default_degree, greatest_degree, form_of_k, option_form};
 
 use crate::shape::{is_exact, is_live, shape_kind};
-use crate::table::OptionName;
-use crate::{SettingName, Verb};
+use crate::{OptionName, SettingName, Verb};
 use ann_defs::{
     Element, Kind, MAX_BEAM, MAX_DEGREE, MAX_DIM, MAX_POINTS, MAX_WORKERS, OrderKind, StartKind,
     Way,

@@ -3,7 +3,7 @@ use Rattle.std.specs.Prelude.{◌≡◌, ℕ, ◌≤◌, cond, min, IfSome, Opti
 use Rattle.ann_defs.specs.declared.kinds.Element.{Element}
 use Rattle.ann_defs.specs.declared.kinds.Element.TheVariants.{U8}
 use Rattle.ann_defs.specs.declared.kinds.Kind.{Kind}
-use Rattle.ann_defs.specs.declared.kinds.Kind.TheVariants.{Vamana}
+use Rattle.ann_defs.specs.declared.kinds.Kind.TheVariants.{Vamana, Hnsw, Nnd}
 use Rattle.ann_defs.specs.declared.kinds.OrderKind.{OrderKind}
 use Rattle.ann_defs.specs.declared.kinds.OrderKind.TheVariants.{Seeded}
 use Rattle.ann_defs.specs.declared.kinds.StartKind.{StartKind}
@@ -11,16 +11,25 @@ use Rattle.ann_defs.specs.declared.kinds.StartKind.TheVariants.{Medoid}
 use Rattle.ann_defs.specs.declared.kinds.Way.{Way}
 use Rattle.ann_defs.specs.declared.kinds.Way.TheVariants.{Stealing}
 use Rattle.ann_defs.specs.declared.limits.TheConstants.{MAX_BEAM, MAX_DEGREE, MAX_DIM, MAX_POINTS, MAX_WORKERS}
-use Rattle.annbuild_words.specs.declared.request.Settings.{Settings}
-use Rattle.annbuild_words.specs.declared.request.Verb.{Verb}
-use Rattle.annbuild_words.specs.declared.table.OptionName.{OptionName}
-use Rattle.annbuild_words.specs.declared.table.OptionName.TheVariants as options
-use Rattle.annbuild_words.specs.declared.value.Value.{Value}
-use Rattle.annbuild_words.specs.declared.value.Value.TheVariants.{ByRule, Number, Fraction, KindIs, PoolIs, OrderIs, StartIs, ElementIs}
-use Rattle.annbuild_words.specs.Options.{option_name, is_named}
-use Rattle.annbuild_words.specs.Shapes.{options_of, shape_kind, is_exact, is_live}
-use Rattle.annbuild_words.specs.Forms.{option_form, default_value, greatest_degree}
-use Rattle.annbuild_words.specs.Rules.{number_or, kind_code}
+use Rattle.command_options.specs.declared.settings.Settings.{Settings}
+use Rattle.command_options.specs.declared.verb.Verb.{Verb}
+use Rattle.command_options.specs.declared.option_name.OptionName.{OptionName}
+use Rattle.command_options.specs.declared.option_name.OptionName.TheVariants as options
+use Rattle.command_options.specs.declared.value.Value.{Value}
+use Rattle.command_options.specs.declared.value.Value.TheVariants.{ByRule, Number, Fraction, KindIs, PoolIs, OrderIs, StartIs, ElementIs}
+use Rattle.command_options.specs.Shapes.{has_option, shape_kind, is_exact, is_live}
+use Rattle.command_options.specs.Forms.{option_form, default_value, greatest_degree}
+
+-- the number of a value, or another where it has none
+abbrev pub number_or : ℕ → Value → ℕ
+number_or other (Number n) = n
+number_or other value = other
+
+-- the number that stands for a kind of index
+abbrev pub kind_code : Kind → ℕ
+kind_code Vamana = 1
+kind_code Hnsw = 2
+kind_code Nnd = 3
 
 -- values as the fields of settings
 abbrev pub numerator : Value → ℕ
@@ -125,7 +134,7 @@ values_of s options.Type = ElementIs s.element
 
 -- values with the default of each option that the command doesn't have
 abbrev pub kept : Verb → Kind → (OptionName → Value) → OptionName → Value
-kept verb kind v option = cond (is_named (option_name option) (options_of verb kind)) (v option) (default_value (option_form verb kind option))
+kept verb kind v option = cond (has_option verb kind option) (v option) (default_value (option_form verb kind option))
 
 -- the most answers of a query
 abbrev pub most_k : Verb → ℕ → ℕ

@@ -1,0 +1,43 @@
+//! A build and a query, read by clap.
+
+use annbuild_clap::{Parsed, parse_by_clap};
+use annbuild_words::{Asked, Verb, read_words};
+use std::alloc::Global;
+use std::test::Fail;
+
+/// What clap reads of these words.
+fn read_twice(alloc: Global, words: &[&str]) -> Result<Parsed, Fail> {
+    let mut owned = Vec::new(alloc);
+    for word in words {
+        owned.push(String::from_str(alloc, *word)?)?;
+    }
+    match read_words(&owned) {
+        Asked::For(request) => match parse_by_clap(alloc, &request) {
+            Ok(parsed) => Ok(parsed),
+            Err(_) => Err(Fail::from("memory")),
+        },
+        _ => Err(Fail::from("no request")),
+    }
+}
+
+#[test]
+fn odd_file_names_and_settings_are_read_by_clap(rt: HostRuntime) -> Result<(), Fail> {
+    let words = ["build", "--cap", "007", "help", "a=b c", "--alpha=5/4"];
+    let parsed = read_twice(rt.alloc(), &words)?;
+    let build = parsed.request();
+    assert_eq!(rt; build.verb, Verb::Build);
+    assert_eq!(rt; build.names.first, "help");
+    assert_eq!(rt; build.names.second, "a=b c");
+    assert_eq!(rt; build.names.third, "");
+    assert_eq!(rt; build.settings.cap, Some(7));
+    assert_eq!(rt; (build.settings.num, build.settings.den), (5, 4));
+    assert_eq!(rt; build.settings.degree, 64);
+    let words = ["query", "build", "query", "--k=3", "x"];
+    let parsed = read_twice(rt.alloc(), &words)?;
+    let query = parsed.request();
+    assert_eq!(rt; query.verb, Verb::Query);
+    assert_eq!(rt; query.names.third, "x");
+    assert_eq!(rt; query.settings.search, 64);
+    assert_eq!(rt; query.settings.k, 3);
+    Ok(())
+}

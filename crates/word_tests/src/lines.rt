@@ -1,0 +1,78 @@
+//! Worked lines.
+
+use ann_defs::{Kind, Near};
+use ann_shelf::Quantity;
+use annbuild_lines::{
+    BuiltLine, Fault, Rule, What, built_line, fault_line, push_query_line, query_line_bytes,
+};
+use bin_files::PointsRule;
+use command_options::{Role, SettingName};
+use std::test::Fail;
+
+#[test]
+fn worked_build(rt: HostRuntime) {
+    let told = BuiltLine {
+        kind: Kind::Vamana,
+        count: 4,
+        dim: 1,
+        degree: 2,
+        start: 0,
+        layers: 1,
+        edges: 5,
+    };
+    assert_eq!(rt;
+        built_line(told).as_slice(),
+        b"built vamana count 4 dim 1 degree 2 start 0 layers 1 edges 5\n".as_slice()
+    );
+}
+
+#[test]
+fn worked_query(rt: HostRuntime) -> Result<(), Fail> {
+    let answers = [Near { dist: 4, id: 1 }, Near { dist: 64, id: 2 }];
+    let mut buffer = Vec::with_capacity(rt.alloc(), query_line_bytes(2))?;
+    push_query_line(&mut buffer, 0, answers.as_slice());
+    assert_eq!(rt; buffer.as_slice(), b"0 1:4 2:64\n".as_slice());
+    Ok(())
+}
+
+#[test]
+fn worked_faults(rt: HostRuntime) {
+    let short = Fault::Malformed {
+        file: Role::Base,
+        place: 0,
+        rule: Rule::Points(PointsRule::ShortHeader),
+    };
+    assert_eq!(rt;
+        fault_line(short).as_slice(),
+        b"annbuild: data is malformed at byte 0: short header\n".as_slice()
+    );
+    let large = Fault::TooLarge {
+        name: Quantity::Count,
+        value: 4_194_305,
+        limit: 4_194_304,
+    };
+    assert_eq!(rt;
+        fault_line(large).as_slice(),
+        b"annbuild: count is 4194305, limit 4194304\n".as_slice()
+    );
+    let unfit = Fault::Unfit {
+        file: Role::Index,
+        what: What::Count,
+        found: 4,
+        wanted: 3,
+    };
+    assert_eq!(rt;
+        fault_line(unfit).as_slice(),
+        b"annbuild: count differs: 4 in index, 3 in data\n".as_slice()
+    );
+    let setting = Fault::Setting {
+        name: SettingName::AlphaNum,
+        value: 9,
+        least: 10,
+        greatest: 1000,
+    };
+    assert_eq!(rt;
+        fault_line(setting).as_slice(),
+        b"annbuild: setting alpha-num is 9, allowed 10 to 1000\n".as_slice()
+    );
+}
