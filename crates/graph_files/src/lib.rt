@@ -20,6 +20,3 @@ pub use fault::{IndexFault, IndexRule};
 pub use graph_rows::{FlatGraph, Index, Kind, Layer, Rows};
 pub use read::read_index;
 pub use write::write_index;
-
-#[cfg(test)]
-mod tests;
