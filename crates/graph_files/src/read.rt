@@ -44,10 +44,7 @@ fn read_end<F: Shelf>(
     ensures outside { IfErr result (λ e. (e ≡ IndexFault.Read) ⊎ (e ≡ IndexFault.NoMemory)) }
     ensures only_reads { OnlyReads (F.shown shelf.old) (F.shown shelf.new) name.now (IsErrOf result IndexFault.Read) }
 {
-    match window.move_to(shelf, name, at) {
-        Ok(()) => {}
-        Err(fault) => return Err(fault),
-    }
+    window.move_to(shelf, name, at)?;
     Ok(window.len != 0)
 }
 
@@ -71,7 +68,7 @@ fn read_body<F: Shelf>(
     ensures only_reads { OnlyReads (F.shown shelf.old) (F.shown shelf.new) name.now (IsErrOf result IndexFault.Read) }
 {
     let bound = bound_of(h.kind, h.degree);
-    let base = match read_graph(
+    let base = read_graph(
         alloc,
         shelf,
         name,
@@ -79,11 +76,8 @@ fn read_body<F: Shelf>(
         Members::Below(h.count),
         bound,
         at,
-    ) {
-        Ok(base) => base,
-        Err(fault) => return Err(fault),
-    };
-    let upper = match read_layers(
+    )?;
+    let upper = read_layers(
         alloc,
         shelf,
         name,
@@ -91,14 +85,8 @@ fn read_body<F: Shelf>(
         h,
         h.count as u64 * (bound as u64 + 1),
         base.1,
-    ) {
-        Ok(upper) => upper,
-        Err(fault) => return Err(fault),
-    };
-    let more = match read_end(shelf, name, window, upper.1) {
-        Ok(more) => more,
-        Err(fault) => return Err(fault),
-    };
+    )?;
+    let more = read_end(shelf, name, window, upper.1)?;
     if more {
         return Err(IndexFault::Malformed {
             place: upper.1,
@@ -136,9 +124,6 @@ pub fn read_index<F: Shelf>(alloc: Global, shelf: &mut F, name: &str) -> Result<
     ensures only_reads { OnlyReads (F.shown shelf.old) (F.shown shelf.new) name.now (IsErrOf result IndexFault.Read) }
 {
     let mut window = Window::new();
-    let header = match read_header(shelf, name, &mut window) {
-        Ok(header) => header,
-        Err(fault) => return Err(fault),
-    };
+    let header = read_header(shelf, name, &mut window)?;
     read_body(alloc, shelf, name, &mut window, header, 32)
 }

@@ -72,10 +72,7 @@ fn read_ids<F: Shelf>(
 {
     for i in 0..len {
         let place = at + 4 * i as u64;
-        let id = match window.word(shelf, name, place) {
-            Ok(id) => id,
-            Err(fault) => return Err(fault),
-        };
+        let id = window.word(shelf, name, place)?;
         match fault_in_row(members, own, place, &ids[..i], id) {
             Some(fault) => return Err(fault),
             None => {}
@@ -108,20 +105,15 @@ pub(crate) fn read_row<F: Shelf>(
     ensures shows { IfSome (F.shown shelf.old).held (λ files. Shows (bytes_of files name.now) window.new) }
     ensures only_reads { OnlyReads (F.shown shelf.old) (F.shown shelf.new) name.now (IsErrOf result IndexFault.Read) }
 {
-    let len = match window.word(shelf, name, at) {
-        Ok(len) => len,
-        Err(fault) => return Err(fault),
-    };
+    let len = window.word(shelf, name, at)?;
     if bound < len {
         return Err(IndexFault::Malformed {
             place: at,
             rule: IndexRule::Degree,
         });
     }
-    match read_ids(shelf, name, window, members, own, at + 4, len as usize, ids) {
-        Ok(()) => Ok(len as usize),
-        Err(fault) => Err(fault),
-    }
+    read_ids(shelf, name, window, members, own, at + 4, len as usize, ids)?;
+    Ok(len as usize)
 }
 
 /// The rows of a layer, one after another; the answer is the place behind them.
@@ -153,10 +145,7 @@ pub(crate) fn read_rows<F: Shelf>(
     let mut place = at;
     for i in 0..graph.count() {
         let own = members.at(i);
-        let len = match read_row(shelf, name, window, members, bound, own, place, &mut row) {
-            Ok(len) => len,
-            Err(fault) => return Err(fault),
-        };
+        let len = read_row(shelf, name, window, members, bound, own, place, &mut row)?;
         graph.set_row(i, &row[..len]);
         place += 4 + 4 * len as u64;
     }
@@ -190,8 +179,6 @@ pub(crate) fn read_graph<F: Shelf>(
     let Ok(mut graph) = FlatGraph::new(alloc, members.count(), bound) else {
         return Err(IndexFault::NoMemory);
     };
-    match read_rows(shelf, name, window, members, bound, at, &mut graph) {
-        Ok(end) => Ok((graph, end)),
-        Err(fault) => Err(fault),
-    }
+    let end = read_rows(shelf, name, window, members, bound, at, &mut graph)?;
+    Ok((graph, end))
 }
