@@ -12,6 +12,7 @@ mod put;
 mod read;
 mod read_layers;
 mod read_rows;
+mod row_room;
 mod window;
 mod words;
 mod write;

@@ -107,20 +107,21 @@ fn read_body<F: Shelf>(
 
 /// Reads the file of an index.
 ///
-/// The rules of the format are checked in its order, and the first that is broken is answered with its byte place. The
-/// memory of a layer is taken once, after its count was checked. The file is read through a window of 16 KiB on the
+/// The rules of the format are checked in its order, and the call fails with the first that is broken and its byte place.
+/// The memory of a layer is taken once, after its count was checked and only if the file is long enough to hold a word of
+/// each row; of a shorter file the rows are read and not kept. The file is read through a window of 16 KiB on the
 /// stack, so rows cost no call each. An id that stands twice in a row is found by a scan of the row so far.
 pub fn read_index<F: Shelf>(alloc: Global, shelf: &mut F, name: &str) -> Result<Index, IndexFault>
-    // Where the file's bytes are told, the answer is what they hold or their first fault; a failed read or want of memory may stand in its place.
+    // Where the file's bytes are told, the result is what they hold or their first fault; a failed read or want of memory may stand in its place.
     ensures index { IfSome (F.shown shelf.old).held (λ files. Gives contents result (index_in (bytes_of files name.now))) }
     // An index that is read can be written, searched and built on.
     ensures well_formed { IfOk result (λ i. IsWellFormed (contents i)) }
     ensures limits { IfOk result (λ i. IsWithinLimits (contents i)) }
-    // The file is the text of the answer.
+    // The file is the text of what is read.
     ensures text { IfOk result (λ i. IfSome (F.shown shelf.old).held (λ files. bytes_of files name.now ≡ text_of (contents i))) }
-    // Where the file is the text of a well-formed index within the limits, this index is answered.
+    // Where the file is the text of a well-formed index within the limits, this index is returned.
     ensures complete { IfSome (F.shown shelf.old).held (λ files. (j : Contents) → IsWellFormed j → IsWithinLimits j → is_read j.kind ≡ true → text_of j ≡ bytes_of files name.now → Gives contents result (Ok j)) }
-    // The file is only read; a failed read is answered only where the count rose.
+    // The file is only read; the call fails with `Read` only where the count rose.
     ensures only_reads { OnlyReads (F.shown shelf.old) (F.shown shelf.new) name.now (IsErrOf result IndexFault.Read) }
 {
     let mut window = Window::new();

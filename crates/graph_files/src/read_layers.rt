@@ -138,7 +138,7 @@ fn read_listed<F: Shelf>(
     Ok(ids)
 }
 
-/// A layer: its count, its ids, its rows. The answer has the place behind it.
+/// A layer: its count, its ids, its rows. Returns it with the place behind it.
 pub(crate) fn read_layer<F: Shelf>(
     alloc: Global,
     shelf: &mut F,

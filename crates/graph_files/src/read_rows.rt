@@ -8,6 +8,7 @@ ghost use Rattle.graph_rows.specs.Members.{holds, owns, count_in, AreAscending, 
 ghost use Rattle.graph_files.specs.Reading.{AreBytesIn, Gives, Shows};
 ghost use Rattle.graph_rows.specs.WellFormed.{IsRowIn};
 
+use crate::row_room::see_room;
 use crate::window::Window;
 use crate::{FlatGraph, IndexFault, IndexRule};
 use ann_defs::{MAX_DEGREE, MAX_POINTS, MAX_WORDS};
@@ -116,7 +117,7 @@ pub(crate) fn read_row<F: Shelf>(
     Ok(len as usize)
 }
 
-/// The rows of a layer, one after another; the answer is the place behind them.
+/// The rows of a layer, one after another. Returns the place behind them.
 pub(crate) fn read_rows<F: Shelf>(
     shelf: &mut F,
     name: &str,
@@ -152,7 +153,8 @@ pub(crate) fn read_rows<F: Shelf>(
     Ok(place)
 }
 
-/// The rows of a layer, in memory that is taken once, with the place behind them.
+/// The rows of a layer, with the place behind them. Memory for them is taken once, and only if the file is long enough to
+/// hold a word of each row.
 pub(crate) fn read_graph<F: Shelf>(
     alloc: Global,
     shelf: &mut F,
@@ -176,6 +178,7 @@ pub(crate) fn read_graph<F: Shelf>(
     ensures shows { IfSome (F.shown shelf.old).held (λ files. Shows (bytes_of files name.now) window.new) }
     ensures only_reads { OnlyReads (F.shown shelf.old) (F.shown shelf.new) name.now (IsErrOf result IndexFault.Read) }
 {
+    see_room(shelf, name, window, members, bound, at)?;
     let Ok(mut graph) = FlatGraph::new(alloc, members.count(), bound) else {
         return Err(IndexFault::NoMemory);
     };

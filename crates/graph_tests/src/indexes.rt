@@ -204,3 +204,25 @@ fn a_broken_rule_is_named_with_its_place(rt: HostRuntime) {
     );
     assert_eq!(rt; fault_of(alloc, &FOUR_POINTS), None);
 }
+
+#[test]
+fn a_short_file_that_promises_much_is_refused_where_it_ends(rt: HostRuntime) {
+    let mut bytes = FOUR_POINTS;
+    bytes[12..16].copy_from_slice(&[0, 0, 64, 0]);
+    bytes[20] = 31;
+    assert_eq!(rt;
+        fault_of(rt.alloc(), &bytes),
+        Some(IndexFault::Malformed {
+            place: 68,
+            rule: IndexRule::Short
+        })
+    );
+    bytes[48] = 0;
+    assert_eq!(rt;
+        fault_of(rt.alloc(), &bytes),
+        Some(IndexFault::Malformed {
+            place: 48,
+            rule: IndexRule::DoubleEdge
+        })
+    );
+}
