@@ -17,7 +17,8 @@ use Rattle.graph_rows.specs.Index.{Contents, word, words, layer_ids, layer_rows,
 use Rattle.graph_rows.specs.WellFormed.{layers_fit, base_bound, greatest_degree, layer_words}
 use Rattle.graph_rows.proofs.LayerLists.{rows_enumerate}
 use Rattle.graph_files.proofs.IndexBytes.{text_is}
-use Rattle.graph_files.proofs.ReadTexts.{bind_ok, unless_ok, cond_ok, ok_same, AreBytes, word_there, rows_told, layers_told}
+use Rattle.bin_files.proofs.Turned.{AreBytes}
+use Rattle.graph_files.proofs.ReadTexts.{bind_ok, unless_ok, cond_ok, ok_same, word_there, rows_told, layers_told}
 use Rattle.graph_files.proofs.RowLoop.{member_is}
 use Rattle.graph_files.proofs.TextReads.{Holds}
 use Rattle.graph_files.proofs.UpperLoop.{Entries}

@@ -1,4 +1,4 @@
--- The answer of a whole read.
+-- What a whole read returns.
 use Rattle.std.proofs.Common.{◌≡◌, ℕ, ◌≤◌, Bool, true, false, not, eqb, List, length, drop, Option, IfSome, IfOk, Result, Ok, Err, refl, sym, ap, ◌∙◌, arith, length-drop}
 use Rattle.std.proofs.lemmas.Bool.{eqb-true}
 use Rattle.ann_shelf.specs.Files.{Files, bytes_of}

@@ -1,10 +1,11 @@
 -- What was read from a file of bytes is what stands there.
-use Rattle.std.proofs.Common.{◌≡◌, ℕ, zero, suc, ◌+◌, ◌*◌, ◌<◌, ◌≤◌, Bool, true, false, cond, nat_lt, List, [], ◌∷◌, ◌++◌, length, take, drop, get_or, Option, Some, None, Result, Ok, Err, refl, sym, ap, subst, ◌∙◌, arith, lit<, append_assoc, length-drop, drop-cons}
+use Rattle.std.proofs.Common.{◌≡◌, ℕ, zero, suc, ◌+◌, ◌*◌, ◌≤◌, Bool, true, false, cond, nat_lt, List, [], ◌∷◌, ◌++◌, length, drop, Option, Some, None, Result, Ok, Err, refl, sym, ap, subst, ◌∙◌, arith, append_assoc, length-drop}
 use Rattle.std.specs.List.{flat_map, zip}
 use Rattle.std.proofs.lemmas.Bool.{ltb-false}
 use Rattle.std.proofs.lemmas.List.{append-nil, drop-drop, take-append-drop}
-use Rattle.std.proofs.lemmas.Nat.{le_bytes_4}
 use Rattle.bin_files.specs.Points.{u32_at}
+use Rattle.bin_files.proofs.Spelled.{four}
+use Rattle.bin_files.proofs.Turned.{AreBytes}
 use Rattle.ann_defs.specs.Graph.{has}
 use Rattle.graph_files.specs.declared.fault.IndexFault.{IndexFault}
 use Rattle.graph_files.specs.Grammar.{◌>>=◌, unless, word_at, id_fault, ids_at, row_at, row_size, rows_at, layer_id_fault, layer_ids_at, members_fault, start_fault, layer_at, layers_at}
@@ -26,30 +27,6 @@ cond_ok false fault step y e = (refl, e)
 
 pub ok_same : {B : Type 0} (x y : B) → ◌≡◌ {A = Result B IndexFault} (Ok x) (Ok y) → x ≡ y
 ok_same x y e = cc
-
-abbrev pub AreBytes : List ℕ → Type 0
-AreBytes file = (i : ℕ) → get_or file i 0 < 256
-
-four_bytes : (a b c d : ℕ) → a < 256 → b < 256 → c < 256 → d < 256 → AreBytes (a ∷ b ∷ c ∷ d ∷ [])
-four_bytes a b c d p q r s zero = p
-four_bytes a b c d p q r s (suc zero) = q
-four_bytes a b c d p q r s (suc (suc zero)) = r
-four_bytes a b c d p q r s (suc (suc (suc zero))) = s
-four_bytes a b c d p q r s (suc (suc (suc (suc i)))) = lit< tt
-
--- four bytes are the bytes of their number
-four : (file : List ℕ) (at : ℕ) → at + 4 ≤ length file → AreBytes file → take 4 (drop at file) ≡ word (u32_at file at)
-four file at fits are =
-    ap (take 4) (drop-cons file at 0 (omega arith) ∙ ap (λ xs. get_or file at 0 ∷ xs) (drop-cons file (suc at) 0 (omega arith)
-    ∙ ap (λ xs. get_or file (suc at) 0 ∷ xs) (drop-cons file (suc (suc at)) 0 (omega arith) ∙ ap (λ xs. get_or file (suc (suc at)) 0 ∷ xs) (drop-cons file (suc (suc (suc at))) 0 (omega arith)))))
-    ∙ at_places ∙ sym (le_bytes_4 _ (u32_at file at) refl (four_bytes _ _ _ _ (are at) (are (at + 1)) (are (at + 2)) (are (at + 3))) refl)
-  where
-    at_places : get_or file at 0 ∷ get_or file (suc at) 0 ∷ get_or file (suc (suc at)) 0 ∷ get_or file (suc (suc (suc at))) 0 ∷ [] ≡ get_or file at 0 ∷ get_or file (at + 1) 0 ∷ get_or file (at + 2) 0 ∷ get_or file (at + 3) 0 ∷ []
-    at_places =
-        let one : suc at ≡ at + 1 = omega arith in
-        let two : suc (suc at) ≡ at + 2 = omega arith in
-        let three : suc (suc (suc at)) ≡ at + 3 = omega arith in
-        cc
 
 pub word_there : (file : List ℕ) (at : ℕ) → at + 4 ≤ length file → AreBytes file → drop at file ≡ word (u32_at file at) ++ drop (at + 4) file
 word_there file at fits are =

@@ -129,9 +129,6 @@ pub row_nil : (held : ℕ → Bool) (own : ℕ) → IsRowIn held 0 own []
 unfolding IsDistinct
 row_nil held own = record { inside = All-nil (λ v. held v ≡ true); distinct = tt; others = All-nil (λ v. v ≢ own); short = omega arith }
 
-pub row_wider : (held : ℕ → Bool) (n bound own : ℕ) (ids : List ℕ) → n ≤ bound → IsRowIn held n own ids → IsRowIn held bound own ids
-row_wider held n bound own ids le row = record { inside = row.inside; distinct = row.distinct; others = row.others; short = omega (arith, row.short) }
-
 pub take_set_more : (ids : List ℕ) (i id : ℕ) → i < length ids → take (i + 1) (set ids i id) ≡ take i ids ++ id ∷ []
 take_set_more ids i id lt = rw add-one (take-suc-set ids i id lt)
 

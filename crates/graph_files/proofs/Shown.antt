@@ -40,9 +40,6 @@ shown_bytes file w i at shows fits is are j from to =
 pub bytes_on : (file : List ℕ) (from mid to : ℕ) → AreBytesIn file from mid → AreBytesIn file mid to → AreBytesIn file from to
 bytes_on file from mid to first second i low high = elim (cases_lt i mid) as (λ _. get_or file i 0 < 256) [ inl less ↦ first i low less | inr more ↦ second i more high ]
 
-pub bytes_none : (file : List ℕ) (at : ℕ) → AreBytesIn file at at
-bytes_none file at i low high = absurd (omega arith)
-
 pub bytes_more : (file : List ℕ) (from mid to next : ℕ) → AreBytesIn file from mid → AreBytesIn file mid to → to ≡ next → AreBytesIn file from next
 bytes_more file from mid to next first second is = subst (AreBytesIn file from) is (bytes_on file from mid to first second)
 

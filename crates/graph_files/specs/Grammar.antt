@@ -13,7 +13,7 @@ use Rattle.graph_rows.specs.Index.{Contents}
 use Rattle.graph_rows.specs.WellFormed.{base_bound, layer_words}
 use Rattle.graph_files.specs.Header.{header_in, form_fault, limit_fault}
 
--- one step after another; the first fault is the answer
+-- one step after another, up to the first fault
 infixl 10 ◌>>=◌
 abbrev pub ◌>>=◌ : {A B : Type 0} → Result A IndexFault → (A → Result B IndexFault) → Result B IndexFault
 (Ok x) >>= f = f x

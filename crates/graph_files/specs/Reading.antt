@@ -3,6 +3,13 @@ use Rattle.std.specs.Prelude.{◌≡◌, ℕ, ◌≤◌, ◌<◌, Bool, true, Li
 use Rattle.graph_files.specs.declared.fault.IndexFault.{IndexFault}
 use Rattle.graph_files.specs.declared.fault.IndexFault.TheVariants.{Read, Malformed, TooLarge, NoMemory}
 use Rattle.graph_files.specs.declared.window.Window.{Window}
+use Rattle.ann_shelf.specs.declared.slip.Slip.{Slip}
+use Rattle.ann_shelf.specs.declared.slip.Slip.TheVariants.{Failed, NoMemory as NoShelfMemory}
+
+-- the fault that a refusal of the shelf is
+abbrev pub fault_of : Slip → IndexFault
+fault_of Failed = Read
+fault_of NoShelfMemory = NoMemory
 
 -- the fault is that of the step, or a failed read or want of memory
 abbrev pub Fails : {Y : Type 0} → IndexFault → Result Y IndexFault → Type 0
@@ -11,7 +18,7 @@ Fails (Malformed place rule) step = step ≡ Err (Malformed place rule)
 Fails (TooLarge name value limit) step = step ≡ Err (TooLarge name value limit)
 Fails NoMemory step = Unit {0}
 
--- what was answered, seen by view, is what the step gives; a failed read and want of memory may stand in its place
+-- what was returned, seen by view, is what the step gives; a failed read and want of memory may stand in its place
 abbrev pub Gives : {X Y : Type 0} → (X → Y) → Result X IndexFault → Result Y IndexFault → Type 0
 Gives view (Ok x) step = step ≡ Ok (view x)
 Gives view (Err fault) step = Fails fault step

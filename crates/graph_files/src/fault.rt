@@ -1,5 +1,5 @@
 //! What may be wrong with the file of an index.
-use ann_shelf::Quantity;
+use ann_shelf::{Quantity, Slip};
 use thiserror::Error;
 
 /// The rule of a well-formed index that a file breaks.
@@ -11,7 +11,7 @@ pub enum IndexRule {
     Magic,
     /// The version is not 1.
     Version,
-    /// The kind is none that is read.
+    /// The kind is not one that is read.
     Kind,
     /// There is no point.
     ZeroCount,
@@ -19,7 +19,7 @@ pub enum IndexRule {
     ZeroDim,
     /// The degree is 0, or a row is longer than its bound.
     Degree,
-    /// The start is no id.
+    /// The start is not an id of a point.
     Start,
     /// The kind may not have so many layers.
     Layers,
@@ -60,4 +60,18 @@ pub enum IndexFault {
     /// There was no memory for the rows.
     #[error("out of memory")]
     NoMemory,
+}
+
+impl From<Slip> for IndexFault {
+    ghost use Rattle.std.specs.Prelude.{◌≡◌};
+    ghost use Rattle.graph_files.specs.Reading.{fault_of};
+
+    ghost from_gives = { λ slip fault. fault ≡ fault_of slip };
+
+    fn from(slip: Slip) -> IndexFault {
+        match slip {
+            Slip::Failed => IndexFault::Read,
+            Slip::NoMemory => IndexFault::NoMemory,
+        }
+    }
 }

@@ -192,10 +192,7 @@ pub(crate) fn read_header<F: Shelf>(
     ensures shows { IfSome (F.shown shelf.old).held (λ files. Shows (bytes_of files name.now) window.new) }
     ensures only_reads { OnlyReads (F.shown shelf.old) (F.shown shelf.new) name.now (IsErrOf result IndexFault.Read) }
 {
-    match window.move_to(shelf, name, 0) {
-        Ok(()) => {}
-        Err(fault) => return Err(fault),
-    }
+    window.move_to(shelf, name, 0)?;
     if window.len < 32 {
         return Err(IndexFault::Malformed {
             place: window.len as u64,

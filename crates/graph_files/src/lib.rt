@@ -12,6 +12,7 @@ mod put;
 mod read;
 mod read_layers;
 mod read_rows;
+mod row_room;
 mod window;
 mod words;
 mod write;
@@ -20,6 +21,3 @@ pub use fault::{IndexFault, IndexRule};
 pub use graph_rows::{FlatGraph, Index, Kind, Layer, Rows};
 pub use read::read_index;
 pub use write::write_index;
-
-#[cfg(test)]
-mod tests;

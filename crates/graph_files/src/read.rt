@@ -44,10 +44,7 @@ fn read_end<F: Shelf>(
     ensures outside { IfErr result (λ e. (e ≡ IndexFault.Read) ⊎ (e ≡ IndexFault.NoMemory)) }
     ensures only_reads { OnlyReads (F.shown shelf.old) (F.shown shelf.new) name.now (IsErrOf result IndexFault.Read) }
 {
-    match window.move_to(shelf, name, at) {
-        Ok(()) => {}
-        Err(fault) => return Err(fault),
-    }
+    window.move_to(shelf, name, at)?;
     Ok(window.len != 0)
 }
 
@@ -71,7 +68,7 @@ fn read_body<F: Shelf>(
     ensures only_reads { OnlyReads (F.shown shelf.old) (F.shown shelf.new) name.now (IsErrOf result IndexFault.Read) }
 {
     let bound = bound_of(h.kind, h.degree);
-    let base = match read_graph(
+    let base = read_graph(
         alloc,
         shelf,
         name,
@@ -79,11 +76,8 @@ fn read_body<F: Shelf>(
         Members::Below(h.count),
         bound,
         at,
-    ) {
-        Ok(base) => base,
-        Err(fault) => return Err(fault),
-    };
-    let upper = match read_layers(
+    )?;
+    let upper = read_layers(
         alloc,
         shelf,
         name,
@@ -91,14 +85,8 @@ fn read_body<F: Shelf>(
         h,
         h.count as u64 * (bound as u64 + 1),
         base.1,
-    ) {
-        Ok(upper) => upper,
-        Err(fault) => return Err(fault),
-    };
-    let more = match read_end(shelf, name, window, upper.1) {
-        Ok(more) => more,
-        Err(fault) => return Err(fault),
-    };
+    )?;
+    let more = read_end(shelf, name, window, upper.1)?;
     if more {
         return Err(IndexFault::Malformed {
             place: upper.1,
@@ -119,26 +107,24 @@ fn read_body<F: Shelf>(
 
 /// Reads the file of an index.
 ///
-/// The rules of the format are checked in its order, and the first that is broken is answered with its byte place. The
-/// memory of a layer is taken once, after its count was checked. The file is read through a window of 16 KiB on the
+/// The rules of the format are checked in its order, and the call fails with the first that is broken and its byte place.
+/// The memory of a layer is taken once, after its count was checked and only if the file is long enough to hold a word of
+/// each row; of a shorter file the rows are read and not kept. The file is read through a window of 16 KiB on the
 /// stack, so rows cost no call each. An id that stands twice in a row is found by a scan of the row so far.
 pub fn read_index<F: Shelf>(alloc: Global, shelf: &mut F, name: &str) -> Result<Index, IndexFault>
-    // Where the file's bytes are told, the answer is what they hold or their first fault; a failed read or want of memory may stand in its place.
+    // Where the file's bytes are told, the result is what they hold or their first fault; a failed read or want of memory may stand in its place.
     ensures index { IfSome (F.shown shelf.old).held (λ files. Gives contents result (index_in (bytes_of files name.now))) }
     // An index that is read can be written, searched and built on.
     ensures well_formed { IfOk result (λ i. IsWellFormed (contents i)) }
     ensures limits { IfOk result (λ i. IsWithinLimits (contents i)) }
-    // The file is the text of the answer.
+    // The file is the text of what is read.
     ensures text { IfOk result (λ i. IfSome (F.shown shelf.old).held (λ files. bytes_of files name.now ≡ text_of (contents i))) }
-    // Where the file is the text of a well-formed index within the limits, this index is answered.
+    // Where the file is the text of a well-formed index within the limits, this index is returned.
     ensures complete { IfSome (F.shown shelf.old).held (λ files. (j : Contents) → IsWellFormed j → IsWithinLimits j → is_read j.kind ≡ true → text_of j ≡ bytes_of files name.now → Gives contents result (Ok j)) }
-    // The file is only read; a failed read is answered only where the count rose.
+    // The file is only read; the call fails with `Read` only where the count rose.
     ensures only_reads { OnlyReads (F.shown shelf.old) (F.shown shelf.new) name.now (IsErrOf result IndexFault.Read) }
 {
     let mut window = Window::new();
-    let header = match read_header(shelf, name, &mut window) {
-        Ok(header) => header,
-        Err(fault) => return Err(fault),
-    };
+    let header = read_header(shelf, name, &mut window)?;
     read_body(alloc, shelf, name, &mut window, header, 32)
 }

@@ -99,10 +99,7 @@ fn read_members<F: Shelf>(
     let mut least = 0u64;
     for i in 0..ids.len() {
         let place = at + 4 * i as u64;
-        let id = match window.word(shelf, name, place) {
-            Ok(id) => id,
-            Err(fault) => return Err(fault),
-        };
+        let id = window.word(shelf, name, place)?;
         match fault_of_id(below, least, place, id) {
             Some(fault) => return Err(fault),
             None => {}
@@ -137,13 +134,11 @@ fn read_listed<F: Shelf>(
     let Ok(mut ids) = vec![in alloc; 0u32; count as usize] else {
         return Err(IndexFault::NoMemory);
     };
-    match read_members(shelf, name, window, below, at, &mut ids) {
-        Ok(()) => Ok(ids),
-        Err(fault) => Err(fault),
-    }
+    read_members(shelf, name, window, below, at, &mut ids)?;
+    Ok(ids)
 }
 
-/// A layer: its count, its ids, its rows. The answer has the place behind it.
+/// A layer: its count, its ids, its rows. Returns it with the place behind it.
 pub(crate) fn read_layer<F: Shelf>(
     alloc: Global,
     shelf: &mut F,
@@ -170,23 +165,17 @@ pub(crate) fn read_layer<F: Shelf>(
     ensures shows { IfSome (F.shown shelf.old).held (λ files. Shows (bytes_of files name.now) window.new) }
     ensures only_reads { OnlyReads (F.shown shelf.old) (F.shown shelf.new) name.now (IsErrOf result IndexFault.Read) }
 {
-    let count = match window.word(shelf, name, at) {
-        Ok(count) => count,
-        Err(fault) => return Err(fault),
-    };
+    let count = window.word(shelf, name, at)?;
     match fault_of_count(degree, below.count(), words, at, count) {
         Some(fault) => return Err(fault),
         None => {}
     }
-    let ids = match read_listed(alloc, shelf, name, window, below, at + 4, count) {
-        Ok(ids) => ids,
-        Err(fault) => return Err(fault),
-    };
+    let ids = read_listed(alloc, shelf, name, window, below, at + 4, count)?;
     match fault_of_start(start, at, &ids) {
         Some(fault) => return Err(fault),
         None => {}
     }
-    match read_graph(
+    let graph = read_graph(
         alloc,
         shelf,
         name,
@@ -194,10 +183,8 @@ pub(crate) fn read_layer<F: Shelf>(
         Members::Listed(&ids),
         degree,
         at + 4 + 4 * count as u64,
-    ) {
-        Ok(graph) => Ok((Layer::of(ids, graph.0), graph.1)),
-        Err(fault) => Err(fault),
-    }
+    )?;
+    Ok((Layer::of(ids, graph.0), graph.1))
 }
 
 // The ids of the topmost layer, or all below the count where there is none.
@@ -242,12 +229,9 @@ pub(crate) fn read_layers<F: Shelf>(
     let mut total = words;
     for i in 1..h.layers {
         let below = top(&layers, h.count);
-        let read = match read_layer(
+        let read = read_layer(
             alloc, shelf, name, window, h.start, h.degree, below, total, place,
-        ) {
-            Ok(read) => read,
-            Err(fault) => return Err(fault),
-        };
+        )?;
         total += read.0.ids().len() as u64 * (h.degree as u64 + 1);
         place = read.1;
         match layers.push(read.0) {

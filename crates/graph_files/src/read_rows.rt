@@ -8,6 +8,7 @@ ghost use Rattle.graph_rows.specs.Members.{holds, owns, count_in, AreAscending, 
 ghost use Rattle.graph_files.specs.Reading.{AreBytesIn, Gives, Shows};
 ghost use Rattle.graph_rows.specs.WellFormed.{IsRowIn};
 
+use crate::row_room::see_room;
 use crate::window::Window;
 use crate::{FlatGraph, IndexFault, IndexRule};
 use ann_defs::{MAX_DEGREE, MAX_POINTS, MAX_WORDS};
@@ -72,10 +73,7 @@ fn read_ids<F: Shelf>(
 {
     for i in 0..len {
         let place = at + 4 * i as u64;
-        let id = match window.word(shelf, name, place) {
-            Ok(id) => id,
-            Err(fault) => return Err(fault),
-        };
+        let id = window.word(shelf, name, place)?;
         match fault_in_row(members, own, place, &ids[..i], id) {
             Some(fault) => return Err(fault),
             None => {}
@@ -108,23 +106,18 @@ pub(crate) fn read_row<F: Shelf>(
     ensures shows { IfSome (F.shown shelf.old).held (λ files. Shows (bytes_of files name.now) window.new) }
     ensures only_reads { OnlyReads (F.shown shelf.old) (F.shown shelf.new) name.now (IsErrOf result IndexFault.Read) }
 {
-    let len = match window.word(shelf, name, at) {
-        Ok(len) => len,
-        Err(fault) => return Err(fault),
-    };
+    let len = window.word(shelf, name, at)?;
     if bound < len {
         return Err(IndexFault::Malformed {
             place: at,
             rule: IndexRule::Degree,
         });
     }
-    match read_ids(shelf, name, window, members, own, at + 4, len as usize, ids) {
-        Ok(()) => Ok(len as usize),
-        Err(fault) => Err(fault),
-    }
+    read_ids(shelf, name, window, members, own, at + 4, len as usize, ids)?;
+    Ok(len as usize)
 }
 
-/// The rows of a layer, one after another; the answer is the place behind them.
+/// The rows of a layer, one after another. Returns the place behind them.
 pub(crate) fn read_rows<F: Shelf>(
     shelf: &mut F,
     name: &str,
@@ -153,17 +146,15 @@ pub(crate) fn read_rows<F: Shelf>(
     let mut place = at;
     for i in 0..graph.count() {
         let own = members.at(i);
-        let len = match read_row(shelf, name, window, members, bound, own, place, &mut row) {
-            Ok(len) => len,
-            Err(fault) => return Err(fault),
-        };
+        let len = read_row(shelf, name, window, members, bound, own, place, &mut row)?;
         graph.set_row(i, &row[..len]);
         place += 4 + 4 * len as u64;
     }
     Ok(place)
 }
 
-/// The rows of a layer, in memory that is taken once, with the place behind them.
+/// The rows of a layer, with the place behind them. Memory for them is taken once, and only if the file is long enough to
+/// hold a word of each row.
 pub(crate) fn read_graph<F: Shelf>(
     alloc: Global,
     shelf: &mut F,
@@ -187,11 +178,10 @@ pub(crate) fn read_graph<F: Shelf>(
     ensures shows { IfSome (F.shown shelf.old).held (λ files. Shows (bytes_of files name.now) window.new) }
     ensures only_reads { OnlyReads (F.shown shelf.old) (F.shown shelf.new) name.now (IsErrOf result IndexFault.Read) }
 {
+    see_room(shelf, name, window, members, bound, at)?;
     let Ok(mut graph) = FlatGraph::new(alloc, members.count(), bound) else {
         return Err(IndexFault::NoMemory);
     };
-    match read_rows(shelf, name, window, members, bound, at, &mut graph) {
-        Ok(end) => Ok((graph, end)),
-        Err(fault) => Err(fault),
-    }
+    let end = read_rows(shelf, name, window, members, bound, at, &mut graph)?;
+    Ok((graph, end))
 }

@@ -7,18 +7,8 @@ ghost use Rattle.graph_files.specs.Reading.{AreBytesIn, Gives, Shows};
 
 use crate::window::Window;
 use crate::{IndexFault, IndexRule};
-use ann_shelf::{Shelf, Slip};
+use ann_shelf::Shelf;
 use bin_files::{read_full, u32_le};
-
-pub(crate) fn fault_of(slip: Slip) -> IndexFault
-    ensures read { result ≡ IndexFault.Read → slip ≡ Slip.Failed }
-    ensures cases { (result ≡ IndexFault.Read) ⊎ (result ≡ IndexFault.NoMemory) }
-{
-    match slip {
-        Slip::Failed => IndexFault::Read,
-        Slip::NoMemory => IndexFault::NoMemory,
-    }
-}
 
 impl Window {
     /// A window that shows nothing yet.
@@ -48,13 +38,8 @@ impl Window {
     {
         self.len = 0;
         self.from = at;
-        match read_full(shelf, name, at, &mut self.bytes) {
-            Ok(got) => {
-                self.len = got;
-                Ok(())
-            }
-            Err(slip) => Err(fault_of(slip)),
-        }
+        self.len = read_full(shelf, name, at, &mut self.bytes)?;
+        Ok(())
     }
 
     /// The word at a place.
@@ -74,10 +59,7 @@ impl Window {
         if self.from <= at && at + 4 <= self.from + self.len as u64 {
             return Ok(u32_le(&self.bytes, (at - self.from) as usize));
         }
-        match self.move_to(shelf, name, at) {
-            Ok(()) => {}
-            Err(fault) => return Err(fault),
-        }
+        self.move_to(shelf, name, at)?;
         if self.len < 4 {
             return Err(IndexFault::Malformed {
                 place: at + self.len as u64,

@@ -12,6 +12,7 @@ use Rattle.graph_rows.specs.Layers.{Layered}
 use Rattle.graph_rows.specs.Members.{holds, count_in, held_over, count_over}
 use Rattle.graph_files.specs.Reading.{Shows}
 use Rattle.graph_rows.specs.WellFormed.{AreFurtherLayers, IsFurtherLayer, layer_words}
+use Rattle.graph_files.proofs.Told.{gives_err}
 use Rattle.graph_files.proofs.RowLoop.{fails_along}
 use Rattle.graph_files.proofs.Shown.{bytes_on}
 use Rattle.graph_rows.proofs.Totals.{entries_of}
@@ -53,8 +54,8 @@ read_layer-requires g c =
       shows = subst (λ o. IfSome o (λ files. Shows (bytes_of files c.args.name.now) c.loop-i.window)) (sym c.loop-i.invariant.only_reads.held) c.loop-i.invariant.shows;
     }
 
-pub returns-in-Err-clause-layers : goal.returns-in-Err-clause-layers
-returns-in-Err-clause-layers g c = both_told (g.F.Shelf.shown c.args.shelf.now).held (g.F.Shelf.shown c.loop-i.shelf).held c.loop-i.invariant.only_reads.held c.loop-i.invariant.layers c.in-Err.ensures.layer (λ files so_far broken.
+pub returns-in_err-read-clause-layers : goal.returns-in_err-read-clause-layers
+returns-in_err-read-clause-layers g c = both_told (g.F.Shelf.shown c.args.shelf.now).held (g.F.Shelf.shown c.loop-i.shelf).held c.loop-i.invariant.only_reads.held c.loop-i.invariant.layers c.in_err-read.ensures.layer (λ files so_far broken.
     let h = c.args.h in
     let base : ℕ → Bool = λ id. nat_lt id h.count in
     let file = bytes_of files c.args.name.now in
@@ -65,23 +66,23 @@ returns-in-Err-clause-layers g c = both_told (g.F.Shelf.shown c.args.shelf.now).
     ap (λ (f : ℕ → Bool). layer_at h.start h.degree f (count_in c.top-below.result) c.loop-i.total file c.loop-i.place) held
     ∙ ap (λ k. layer_at h.start h.degree (held_over base layers) k c.loop-i.total file c.loop-i.place) count in
     let total : Read = layers_at h.start h.degree base h.count c.args.words file (h.layers - 1) c.args.at [] in
-    layers_broken h.start h.degree file c.in-Err.fault (held_over base layers) (count_over h.count layers) c.loop-i.total h.layers c.loop-i.i c.loop-i.place layers total c.loop-i-test.true
-    (fails_along c.in-Err.fault _ _ same broken) so_far)
+    gives_err _ c.from_residual.result c.in_err-read.field-0.0 _ c.from_residual.ensures.1 (layers_broken h.start h.degree file c.in_err-read.field-0.0 (held_over base layers) (count_over h.count layers) c.loop-i.total h.layers c.loop-i.i c.loop-i.place layers total c.loop-i-test.true
+    (fails_along c.in_err-read.field-0.0 _ _ same broken) so_far))
 
 pub loop-i-preserved : goal.loop-i-preserved
 loop-i-preserved g c =
     let h = c.args.h in
     let base : ℕ → Bool = λ id. nat_lt id h.count in
     let layers : List Entries = map entries_of c.loop-i.layers.items in
-    let layer : Entries = c.in-Ok.read.0.entries in
+    let layer : Entries = c.in_ok-read.read.0.entries in
     let held : holds c.top-below.result ≡ held_over base layers = c.top-below.ensures.held ∙ ap (λ (ls : List Layered). held_over base (map entries_of ls)) c.deref.ensures.value in
     let count : count_in c.top-below.result ≡ count_over h.count layers = c.top-below.ensures.count ∙ ap (λ (ls : List Layered). count_over h.count (map entries_of ls)) c.deref.ensures.value in
-    let items : c.push.new.self.items ≡ c.loop-i.layers.items ++ c.in-Ok.read.0 ∷ [] = c.in-Ok-push.ensures.items in
-    let grown : map entries_of c.push.new.self.items ≡ layers ++ layer ∷ [] = ap (map entries_of) items ∙ entries_push c.loop-i.layers.items c.in-Ok.read.0 in
+    let items : c.push.new.self.items ≡ c.loop-i.layers.items ++ c.in_ok-read.read.0 ∷ [] = c.in-Ok.ensures.items in
+    let grown : map entries_of c.push.new.self.items ≡ layers ++ layer ∷ [] = ap (map entries_of) items ∙ entries_push c.loop-i.layers.items c.in_ok-read.read.0 in
     let many : length c.ids.result.now ≡ length layer = ap length c.ids.ensures.value ∙ length-map layer (λ (e : ℕ × List ℕ). e.0) in
-    let next : ℕ = c.in-Ok.read.1 in
+    let next : ℕ = c.in_ok-read.read.1 in
     record {
-      layers = both_told (g.F.Shelf.shown c.args.shelf.now).held (g.F.Shelf.shown c.loop-i.shelf).held c.loop-i.invariant.only_reads.held c.loop-i.invariant.layers c.in-Ok.ensures.layer (λ files so_far step.
+      layers = both_told (g.F.Shelf.shown c.args.shelf.now).held (g.F.Shelf.shown c.loop-i.shelf).held c.loop-i.invariant.only_reads.held c.loop-i.invariant.layers c.in_ok-read.ensures.layer (λ files so_far step.
           let file = bytes_of files c.args.name.now in
           let total : Read = layers_at h.start h.degree base h.count c.args.words file (h.layers - 1) c.args.at [] in
           let read : layer_at h.start h.degree (held_over base layers) (count_over h.count layers) c.loop-i.total file c.loop-i.place ≡ Ok (layer_ids layer, layer_rows layer, next) =
@@ -92,19 +93,19 @@ loop-i-preserved g c =
           ∙ ap (λ k. layers_at h.start h.degree (λ id. has (layer_ids layer) id) k (c.loop-i.total + length c.ids.result.now * (h.degree + 1)) file (h.layers - (c.loop-i.i + 1)) next (layers ++ layer ∷ [])) (count_push h.count layers layer)
           ∙ ap (λ k. layers_at h.start h.degree (λ id. has (layer_ids layer) id) (length layer) (c.loop-i.total + k * (h.degree + 1)) file (h.layers - (c.loop-i.i + 1)) next (layers ++ layer ∷ [])) many
           ∙ layers_on h.start h.degree file (held_over base layers) (count_over h.count layers) c.loop-i.total h.layers c.loop-i.i c.loop-i.place next layers layer total c.loop-i-test.true read so_far);
-      sound = subst (AreFurtherLayers h.start h.degree base) (sym grown) (further_push h.start h.degree base layers layer c.loop-i.invariant.sound (subst (λ (f : ℕ → Bool). IsFurtherLayer h.start h.degree f layer) held c.in-Ok.ensures.sound));
-      count = omega (arith, ap (λ (ls : List Layered). length ls) items, length-append c.loop-i.layers.items (c.in-Ok.read.0 ∷ []), c.loop-i.invariant.count);
-      few = subst (λ (ls : List Entries). count_over h.count ls ≤ 4194304) (sym grown) (subst (λ k. k ≤ 4194304) (sym (count_push h.count layers layer)) c.in-Ok.ensures.count);
+      sound = subst (AreFurtherLayers h.start h.degree base) (sym grown) (further_push h.start h.degree base layers layer c.loop-i.invariant.sound (subst (λ (f : ℕ → Bool). IsFurtherLayer h.start h.degree f layer) held c.in_ok-read.ensures.sound));
+      count = omega (arith, ap (λ (ls : List Layered). length ls) items, length-append c.loop-i.layers.items (c.in_ok-read.read.0 ∷ []), c.loop-i.invariant.count);
+      few = subst (λ (ls : List Entries). count_over h.count ls ≤ 4194304) (sym grown) (subst (λ k. k ≤ 4194304) (sym (count_push h.count layers layer)) c.in_ok-read.ensures.count);
       sum = let more : sum_by (words_in h.degree) (map entries_of c.push.new.self.items) ≡ sum_by (words_in h.degree) layers + length layer * (h.degree + 1) =
           ap (λ (ls : List Entries). sum_by (words_in h.degree) ls) grown ∙ sum_by_push (words_in h.degree) layers layer in
           let here : length c.ids.result.now * (h.degree + 1) ≡ length layer * (h.degree + 1) = ap (λ k. k * (h.degree + 1)) many in
           omega (arith, c.loop-i.invariant.sum, more, here);
-      limit = let here : length c.ids.result.now * (h.degree + 1) ≡ length layer * (h.degree + 1) = ap (λ k. k * (h.degree + 1)) many in omega (arith, c.in-Ok.ensures.words, here);
-      bytes = both_told (g.F.Shelf.shown c.args.shelf.now).held (g.F.Shelf.shown c.loop-i.shelf).held c.loop-i.invariant.only_reads.held c.loop-i.invariant.bytes c.in-Ok.ensures.bytes (λ files so_far more.
+      limit = let here : length c.ids.result.now * (h.degree + 1) ≡ length layer * (h.degree + 1) = ap (λ k. k * (h.degree + 1)) many in omega (arith, c.in_ok-read.ensures.words, here);
+      bytes = both_told (g.F.Shelf.shown c.args.shelf.now).held (g.F.Shelf.shown c.loop-i.shelf).held c.loop-i.invariant.only_reads.held c.loop-i.invariant.bytes c.in_ok-read.ensures.bytes (λ files so_far more.
           bytes_on (bytes_of files c.args.name.now) c.args.at c.loop-i.place next so_far more);
-      end = omega (arith, c.in-Ok.ensures.end, c.loop-i.invariant.end);
-      shows = subst (λ o. IfSome o (λ files. Shows (bytes_of files c.args.name.now) c.read_layer.new.window)) c.loop-i.invariant.only_reads.held c.in-Ok.ensures.shows;
-      only_reads = only_reads_then _ _ _ _ c.loop-i.invariant.only_reads c.in-Ok.ensures.only_reads (λ never. absurd never);
+      end = omega (arith, c.in_ok-read.ensures.end, c.loop-i.invariant.end);
+      shows = subst (λ o. IfSome o (λ files. Shows (bytes_of files c.args.name.now) c.read_layer.new.window)) c.loop-i.invariant.only_reads.held c.in_ok-read.ensures.shows;
+      only_reads = only_reads_then _ _ _ _ c.loop-i.invariant.only_reads c.in_ok-read.ensures.only_reads (λ never. absurd never);
     }
 
 pub returns-clause-layers : goal.returns-clause-layers

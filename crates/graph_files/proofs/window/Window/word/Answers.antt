@@ -10,7 +10,7 @@ returns-then-at-self-clause-word g c = told_then (g.F.Shelf.shown c.args.shelf.n
 
 pub returns-clause-word : goal.returns-clause-word
 returns-clause-word g c = told_then (g.F.Shelf.shown c.args.shelf.now).held c.move_to.ensures.shows (λ files shows.
-    shown_word (bytes_of files c.args.name.now) c.move_to.new.self 0 c.args.at c.u32_le-2.result shows (omega arith) (omega (arith, c.in-Ok.ensures.place)) c.u32_le-2.ensures.value)
+    shown_word (bytes_of files c.args.name.now) c.move_to.new.self 0 c.args.at c.u32_le-2.result shows (omega arith) (omega (arith, c.in_ok-move_to.ensures.place)) c.u32_le-2.ensures.value)
 
 pub returns-then-at-self-clause-bytes : goal.returns-then-at-self-clause-bytes
 returns-then-at-self-clause-bytes g c = told_then (g.F.Shelf.shown c.args.shelf.now).held c.requires.shows (λ files shows.
@@ -18,4 +18,4 @@ returns-then-at-self-clause-bytes g c = told_then (g.F.Shelf.shown c.args.shelf.
 
 pub returns-clause-bytes : goal.returns-clause-bytes
 returns-clause-bytes g c = told_then (g.F.Shelf.shown c.args.shelf.now).held c.move_to.ensures.shows (λ files shows.
-    shown_bytes (bytes_of files c.args.name.now) c.move_to.new.self 0 c.args.at shows (omega arith) (omega (arith, c.in-Ok.ensures.place)) c.u32_le-2.ensures.are_bytes)
+    shown_bytes (bytes_of files c.args.name.now) c.move_to.new.self 0 c.args.at shows (omega arith) (omega (arith, c.in_ok-move_to.ensures.place)) c.u32_le-2.ensures.are_bytes)

@@ -3,8 +3,8 @@ ghost use Rattle.std.specs.Prelude.{◌≡◌, ◌∷◌, [], IfOk};
 ghost use Rattle.graph_rows.specs.View.{contents};
 ghost use Rattle.graph_rows.specs.WellFormed.{IsWellFormed};
 
-use super::*;
 use ann_shelf::{MemShelf, NoMemory, Slip};
+use graph_files::{FlatGraph, Index, IndexFault, IndexRule, Kind, Layer, read_index, write_index};
 use std::alloc::Global;
 use std::test::*;
 
@@ -35,10 +35,7 @@ fn one_id(alloc: Global) -> Result<Layer, NoMemory>
     ensures { IfOk result (λ l. l ≡ record { width = 1; entries = (1, []) ∷ [] }) }
 {
     let mut ids = Vec::new(alloc);
-    match ids.push(1u32) {
-        Ok(()) => {}
-        Err(_) => return Err(NoMemory),
-    }
+    ids.push(1u32)?;
     Layer::new(alloc, ids, 1)
 }
 
@@ -64,10 +61,7 @@ fn two_layers(alloc: Global) -> Result<Index, NoMemory>
     let base = four_rows(alloc)?;
     let layer = one_id(alloc)?;
     let mut upper = Vec::new(alloc);
-    match upper.push(layer) {
-        Ok(()) => {}
-        Err(_) => return Err(NoMemory),
-    }
+    upper.push(layer)?;
     Ok(Index {
         kind: Kind::Hnsw,
         count: 4,
@@ -108,7 +102,7 @@ fn two_layers_are_written_in_80_bytes(rt: HostRuntime) -> Result<(), Fail> {
     Ok(())
 }
 
-// What reading a file of these bytes answers in place of an index.
+// Why a file of these bytes isn't read.
 fn fault_of(alloc: Global, bytes: &[u8]) -> Option<IndexFault> {
     let mut shelf = MemShelf::new(alloc);
     if shelf.put("index", bytes).is_err() {
@@ -209,4 +203,26 @@ fn a_broken_rule_is_named_with_its_place(rt: HostRuntime) {
         })
     );
     assert_eq!(rt; fault_of(alloc, &FOUR_POINTS), None);
+}
+
+#[test]
+fn a_short_file_that_promises_much_is_refused_where_it_ends(rt: HostRuntime) {
+    let mut bytes = FOUR_POINTS;
+    bytes[12..16].copy_from_slice(&[0, 0, 64, 0]);
+    bytes[20] = 31;
+    assert_eq!(rt;
+        fault_of(rt.alloc(), &bytes),
+        Some(IndexFault::Malformed {
+            place: 68,
+            rule: IndexRule::Short
+        })
+    );
+    bytes[48] = 0;
+    assert_eq!(rt;
+        fault_of(rt.alloc(), &bytes),
+        Some(IndexFault::Malformed {
+            place: 48,
+            rule: IndexRule::DoubleEdge
+        })
+    );
 }

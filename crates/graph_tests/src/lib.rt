@@ -1,0 +1,7 @@
+//! Tests of the files of indexes over their public calls.
+//!
+//! They stand in a crate above, since a crate with tests is proved twice.
+#![tactic(auto)]
+
+#[cfg(test)]
+mod indexes;
