@@ -11,6 +11,7 @@ pub fn next_stamp(marks: &mut [u32], last: u32) -> u32
     ensures later { AreUpTo (result - 1) marks.new }
     ensures some { 1 ≤ result }
     ensures room { result + 1 < 2 ^ 32 }
+    ensures kept { last + 2 < 2 ^ 32 → marks.new ≡ marks.old }
     ensures len { length marks.new ≡ length marks.old }
 {
     if last < u32::MAX - 1 {

@@ -1,34 +1,35 @@
-//! Which worker begins which task, and how often each task is run.
-use crate::rounds::Squares;
-use ann_shelf::{FreeGate, Gate};
+//! Which worker begins which task, and how often.
+use crate::squares::{run, steal};
+use ann_shelf::Gate;
 use std::sync::atomic::{AtomicU64, Ordering};
 use std::test::Fail;
-use steal_pool::{Post, RayonRounds, Round, Rounds, SerialRounds, StealRounds, Work};
+use steal_pool::{RayonRounds, SerialRounds};
+
+// Of each of five tasks a number.
+type FiveNumbers = [AtomicU64; 5];
+
+fn zeros() -> FiveNumbers {
+    [
+        AtomicU64::new(0),
+        AtomicU64::new(0),
+        AtomicU64::new(0),
+        AtomicU64::new(0),
+        AtomicU64::new(0),
+    ]
+}
 
 // A gate that keeps of each of five tasks how often it was begun, and by which worker last.
 #[derive(Drop)]
 struct Begun {
-    times: [AtomicU64; 5],
-    by: [AtomicU64; 5],
+    times: FiveNumbers,
+    by: FiveNumbers,
 }
 
 impl Begun {
     fn new() -> Begun {
         Begun {
-            times: [
-                AtomicU64::new(0),
-                AtomicU64::new(0),
-                AtomicU64::new(0),
-                AtomicU64::new(0),
-                AtomicU64::new(0),
-            ],
-            by: [
-                AtomicU64::new(0),
-                AtomicU64::new(0),
-                AtomicU64::new(0),
-                AtomicU64::new(0),
-                AtomicU64::new(0),
-            ],
+            times: zeros(),
+            by: zeros(),
         }
     }
 
@@ -37,6 +38,16 @@ impl Begun {
         let at = task as usize % 5;
         self.times[at].load(Ordering::SeqCst) == 1
             && self.by[at].load(Ordering::SeqCst) == u64::from(worker)
+    }
+
+    // Whether the five tasks were begun once, each by the worker at its place.
+    fn are_begun_by(&self, workers: [u32; 5]) -> bool {
+        for task in 0..5u32 {
+            if !self.is_begun_by(task, workers[task as usize]) {
+                return false;
+            }
+        }
+        true
     }
 }
 
@@ -54,45 +65,27 @@ impl Gate for Begun {
 
 #[test]
 fn serial_tasks_are_begun_once_by_worker_0(rt: HostRuntime) -> Result<(), Fail> {
-    let work = Squares::of(5);
     let gate = Begun::new();
-    let mut posts = [Post::new(7u32)];
-    let mut pool = SerialRounds::new();
-    let _blocks = pool.run_round(&rt, rt.alloc(), &work, &mut posts, &gate)?;
-    for task in 0..5u32 {
-        assert!(rt; gate.is_begun_by(task, 0));
-    }
-    assert!(rt; work.runs.load(Ordering::SeqCst) == 5);
+    run(&rt, rt.alloc(), &mut SerialRounds::new(), 5, &gate)?;
+    assert!(rt; gate.are_begun_by([0, 0, 0, 0, 0]));
     Ok(())
 }
 
 #[test]
 fn rayon_tasks_are_begun_once_by_the_worker_of_their_share(rt: HostRuntime) -> Result<(), Fail> {
-    let work = Squares::of(5);
     let gate = Begun::new();
-    let mut posts = [Post::new(7u32), Post::new(7u32), Post::new(7u32)];
-    let mut pool = RayonRounds::new(3);
-    let _blocks = pool.run_round(&rt, rt.alloc(), &work, &mut posts, &gate)?;
-    for (task, worker) in [(0, 0), (1, 1), (2, 1), (3, 2), (4, 2)] {
-        assert!(rt; gate.is_begun_by(task, worker));
-    }
-    assert!(rt; work.runs.load(Ordering::SeqCst) == 5);
+    run(&rt, rt.alloc(), &mut RayonRounds::new(3), 5, &gate)?;
+    assert!(rt; gate.are_begun_by([0, 1, 1, 2, 2]));
     Ok(())
 }
 
 #[test]
 fn steal_tasks_are_begun_once_by_their_owners(rt: HostRuntime) -> Result<(), Fail> {
-    let work = Squares::of(5);
     let gate = Begun::new();
-    let mut posts = [Post::new(7u32), Post::new(7u32), Post::new(7u32)];
-    let round = Round::new(rt.alloc(), work.tasks(), work.width(), 3)?;
-    let (_blocks, report) = round.run(&rt, &work, &mut posts, &gate);
+    let (_blocks, report, runs) = steal(&rt, rt.alloc(), 3, 5, &gate)?;
+    assert!(rt; runs == 5);
     for task in 0..5u32 {
         assert!(rt; gate.is_begun_by(task, report.owner(task)));
     }
-    assert!(rt; work.runs.load(Ordering::SeqCst) == 5);
-    let mut pool = StealRounds::new(3);
-    let _blocks = pool.run_round(&rt, rt.alloc(), &work, &mut posts, &FreeGate)?;
-    assert!(rt; work.runs.load(Ordering::SeqCst) == 10);
     Ok(())
 }

@@ -3,25 +3,10 @@ ghost use Rattle.std.specs.Prelude.{◌≡◌, None, Some};
 ghost use Rattle.steal_table.specs.Opened.{fresh, caller_of};
 ghost use Rattle.steal_table.specs.Steps.{AllBack};
 
-use crate::rounds::Squares;
+use crate::squares::{are_squares, steal};
 use ann_shelf::FreeGate;
 use std::test::Fail;
-use steal_pool::{Board, Claim, Pass, Post, Round, Work};
-
-#[test]
-fn report_of_three_workers_adds_up(rt: HostRuntime) -> Result<(), Fail> {
-    let work = Squares::of(5);
-    let mut posts = [Post::new(7u32), Post::new(7u32), Post::new(7u32)];
-    let round = Round::new(rt.alloc(), work.tasks(), work.width(), 3)?;
-    let (blocks, report) = round.run(&rt, &work, &mut posts, &FreeGate);
-    assert!(rt; blocks.get(4) == [4, 16].as_slice());
-    for task in 0..5u32 {
-        assert!(rt; report.owner(task) <= 3);
-    }
-    let ran = u64::from(report.ran(0)) + u64::from(report.ran(1)) + u64::from(report.ran(2));
-    assert!(rt; ran + u64::from(report.swept()) == 5);
-    Ok(())
-}
+use steal_pool::{Board, Claim, Pass, Round};
 
 // The board of a round of one task for two workers, with the passes of the caller and of both workers.
 fn opened(round: Round) -> (Board, Pass, Pass, Pass)
@@ -96,11 +81,17 @@ fn one_task_goes_by_hand_from_open_to_held_to_done(rt: HostRuntime) -> Result<()
 }
 
 #[test]
+fn report_of_three_workers_adds_up(rt: HostRuntime) -> Result<(), Fail> {
+    let (blocks, report, _runs) = steal(&rt, rt.alloc(), 3, 5, &FreeGate)?;
+    assert!(rt; are_squares(&blocks, 5));
+    let ran = u64::from(report.ran(0)) + u64::from(report.ran(1)) + u64::from(report.ran(2));
+    assert!(rt; ran + u64::from(report.swept()) == 5);
+    Ok(())
+}
+
+#[test]
 fn one_worker_leaves_nothing_to_the_sweep(rt: HostRuntime) -> Result<(), Fail> {
-    let work = Squares::of(64);
-    let mut posts = [Post::new(7u32)];
-    let round = Round::new(rt.alloc(), work.tasks(), work.width(), 1)?;
-    let (_blocks, report) = round.run(&rt, &work, &mut posts, &FreeGate);
+    let (_blocks, report, _runs) = steal(&rt, rt.alloc(), 1, 64, &FreeGate)?;
     assert!(rt; report.ran(0) == 64);
     assert!(rt; report.swept() == 0);
     Ok(())

@@ -1,11 +1,12 @@
 //! Tasks that wait for each other's beginning, which tell the pools apart.
-use crate::rounds::Squares;
+use crate::squares::{run, run_by, steal};
 use ann_defs::Way;
-use ann_shelf::Gate;
+use ann_shelf::{Gate, NoMemory};
+use std::alloc::Global;
 use std::sync::atomic::{AtomicU64, Ordering};
 use std::test::Fail;
-use std::thread;
-use steal_pool::{Pool, Post, RayonRounds, Round, Rounds, SerialRounds, StealRounds, Work};
+use std::thread::{self, Threads};
+use steal_pool::{Pool, RayonRounds, Rounds, SerialRounds, StealRounds};
 
 // How often a task looks for one that is to come, before it gives up.
 const PATIENT: u32 = 50_000_000;
@@ -80,13 +81,33 @@ impl Gate for WaitGate {
     fn answer(&self, _query: u32) {}
 }
 
+// Whether a round of four tasks over this pool has the held up neighbour begun by its other worker.
+fn steals<R: Threads + Sync, P: Rounds>(
+    rt: &R,
+    alloc: Global,
+    pool: &mut P,
+) -> Result<bool, NoMemory> {
+    let gate = WaitGate::of_neighbours(PATIENT);
+    run(rt, alloc, pool, 4, &gate)?;
+    Ok(!gate.is_late() && gate.is_begun_by(1, 1))
+}
+
+// Whether it leaves the neighbour to worker 0, which waits in vain, while this one begins the task after it.
+fn leaves_to_its_own<R: Threads + Sync, P: Rounds>(
+    rt: &R,
+    alloc: Global,
+    pool: &mut P,
+    next: u32,
+) -> Result<bool, NoMemory> {
+    let gate = WaitGate::of_neighbours(HASTY);
+    run(rt, alloc, pool, 4, &gate)?;
+    Ok(gate.is_late() && gate.is_begun_by(1, 0) && gate.is_begun_by(2, next))
+}
+
 #[test]
 fn two_tasks_of_a_round_run_at_once(rt: HostRuntime) -> Result<(), Fail> {
-    let work = Squares::of(2);
     let gate = WaitGate::of_two();
-    let mut posts = [Post::new(7u32), Post::new(7u32)];
-    let round = Round::new(rt.alloc(), work.tasks(), work.width(), 2)?;
-    let (_blocks, report) = round.run(&rt, &work, &mut posts, &gate);
+    let (_blocks, report, _runs) = steal(&rt, rt.alloc(), 2, 2, &gate)?;
     assert!(rt; !gate.is_late());
     assert!(rt; report.swept() == 0);
     Ok(())
@@ -94,22 +115,16 @@ fn two_tasks_of_a_round_run_at_once(rt: HostRuntime) -> Result<(), Fail> {
 
 #[test]
 fn two_tasks_of_a_steal_pool_run_at_once(rt: HostRuntime) -> Result<(), Fail> {
-    let work = Squares::of(2);
     let gate = WaitGate::of_two();
-    let mut posts = [Post::new(7u32), Post::new(7u32)];
-    let mut pool = StealRounds::new(2);
-    let _blocks = pool.run_round(&rt, rt.alloc(), &work, &mut posts, &gate)?;
+    run(&rt, rt.alloc(), &mut StealRounds::new(2), 2, &gate)?;
     assert!(rt; !gate.is_late());
     Ok(())
 }
 
 #[test]
 fn a_round_has_a_held_up_neighbour_stolen(rt: HostRuntime) -> Result<(), Fail> {
-    let work = Squares::of(4);
     let gate = WaitGate::of_neighbours(PATIENT);
-    let mut posts = [Post::new(7u32), Post::new(7u32)];
-    let round = Round::new(rt.alloc(), work.tasks(), work.width(), 2)?;
-    let (_blocks, report) = round.run(&rt, &work, &mut posts, &gate);
+    let (_blocks, report, _runs) = steal(&rt, rt.alloc(), 2, 4, &gate)?;
     assert!(rt; !gate.is_late());
     assert!(rt; report.owner(1) == 1);
     Ok(())
@@ -117,61 +132,39 @@ fn a_round_has_a_held_up_neighbour_stolen(rt: HostRuntime) -> Result<(), Fail> {
 
 #[test]
 fn steal_pools_have_a_held_up_neighbour_stolen(rt: HostRuntime) -> Result<(), Fail> {
-    let work = Squares::of(4);
-    let mut posts = [Post::new(7u32), Post::new(7u32)];
-    let gate = WaitGate::of_neighbours(PATIENT);
-    let mut pool = StealRounds::new(2);
-    let _blocks = pool.run_round(&rt, rt.alloc(), &work, &mut posts, &gate)?;
-    assert!(rt; !gate.is_late() && gate.is_begun_by(1, 1));
-    let gate = WaitGate::of_neighbours(PATIENT);
-    let mut pool = Pool::new(Way::Stealing, 2);
-    let _blocks = pool.run_round(&rt, rt.alloc(), &work, &mut posts, &gate)?;
-    assert!(rt; !gate.is_late() && gate.is_begun_by(1, 1));
+    let alloc = rt.alloc();
+    assert!(rt; steals(&rt, alloc, &mut StealRounds::new(2))?);
+    assert!(rt; steals(&rt, alloc, &mut Pool::new(Way::Stealing, 2))?);
     Ok(())
 }
 
 #[test]
 fn rayon_pools_leave_each_share_to_its_worker(rt: HostRuntime) -> Result<(), Fail> {
-    let work = Squares::of(4);
-    let mut posts = [Post::new(7u32), Post::new(7u32)];
-    let gate = WaitGate::of_neighbours(HASTY);
-    let mut pool = RayonRounds::new(2);
-    let _blocks = pool.run_round(&rt, rt.alloc(), &work, &mut posts, &gate)?;
-    assert!(rt; gate.is_late() && gate.is_begun_by(1, 0) && gate.is_begun_by(2, 1));
-    let gate = WaitGate::of_neighbours(HASTY);
-    let mut pool = Pool::new(Way::Shares, 2);
-    let _blocks = pool.run_round(&rt, rt.alloc(), &work, &mut posts, &gate)?;
-    assert!(rt; gate.is_late() && gate.is_begun_by(1, 0) && gate.is_begun_by(2, 1));
+    let alloc = rt.alloc();
+    assert!(rt; leaves_to_its_own(&rt, alloc, &mut RayonRounds::new(2), 1)?);
+    assert!(rt; leaves_to_its_own(&rt, alloc, &mut Pool::new(Way::Shares, 2), 1)?);
     Ok(())
 }
 
 #[test]
 fn serial_pools_run_all_as_worker_0(rt: HostRuntime) -> Result<(), Fail> {
-    let work = Squares::of(4);
-    let mut posts = [Post::new(7u32)];
-    let gate = WaitGate::of_neighbours(HASTY);
-    let mut pool = SerialRounds::new();
-    let _blocks = pool.run_round(&rt, rt.alloc(), &work, &mut posts, &gate)?;
-    assert!(rt; gate.is_late() && gate.is_begun_by(1, 0) && gate.is_begun_by(2, 0));
-    let gate = WaitGate::of_neighbours(HASTY);
+    let alloc = rt.alloc();
+    assert!(rt; leaves_to_its_own(&rt, alloc, &mut SerialRounds::new(), 0)?);
     let mut pool = Pool::new(Way::Serial, 2);
     assert!(rt; pool.workers() == 1);
-    let _blocks = pool.run_round(&rt, rt.alloc(), &work, &mut posts, &gate)?;
-    assert!(rt; gate.is_late() && gate.is_begun_by(1, 0) && gate.is_begun_by(2, 0));
+    assert!(rt; leaves_to_its_own(&rt, alloc, &mut pool, 0)?);
     Ok(())
 }
 
 #[test]
 fn a_round_of_few_tasks_is_run_by_its_caller(rt: HostRuntime) -> Result<(), Fail> {
-    let work = Squares::four_by(3);
-    let mut posts = [Post::new(7u32), Post::new(7u32)];
-    let gate = WaitGate::of_neighbours(HASTY);
+    let alloc = rt.alloc();
     let mut pool = Pool::new(Way::Stealing, 2).sparing();
-    let _blocks = pool.run_round(&rt, rt.alloc(), &work, &mut posts, &gate)?;
+    let gate = WaitGate::of_neighbours(HASTY);
+    run_by(&rt, alloc, &mut pool, 4, 3, &gate)?;
     assert!(rt; gate.is_late() && gate.is_begun_by(1, 0) && gate.is_begun_by(2, 0));
-    let work = Squares::four_by(2);
     let gate = WaitGate::of_neighbours(PATIENT);
-    let _blocks = pool.run_round(&rt, rt.alloc(), &work, &mut posts, &gate)?;
+    run_by(&rt, alloc, &mut pool, 4, 2, &gate)?;
     assert!(rt; !gate.is_late() && gate.is_begun_by(1, 1));
     Ok(())
 }

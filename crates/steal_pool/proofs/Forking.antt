@@ -12,9 +12,6 @@ back_at : {X : Type 0} (a b : List X) (k : ℕ) (d : X) → length a ≡ 1 → g
 back_at a b k d one = ap (λ n. get_or (a ++ b) (n + k) d) (sym one) ∙ get_or-append-add a b k d
 
 module _ {X : Type 0} (P : ℕ → X → Type 0) (base : ℕ) (all a b : List X) (is : all ≡ a ++ b) (one : length a ≡ 1) where
-  pub accepts_first : AcceptsFrom P base all → AcceptsFrom P base a
-  accepts_first each k d lt = subst (P (base + k)) (ap (λ l. get_or l k d) is ∙ front_at a b k d lt) (each k d (omega (arith, lt, ap length is, length-append a b)))
-
   pub accepts_others : AcceptsFrom P base all → AcceptsFrom P (base + 1) b
   accepts_others each k d lt =
       let at : base + (1 + k) ≡ base + 1 + k = omega arith in

@@ -1,13 +1,11 @@
 -- What of a round is done so far.
 use Rattle.std.proofs.Common.{◌≡◌, ◌≢◌, ◌<◌, ◌≤◌, ◌+◌, ◌*◌, ◌/◌, ◌∙◌, ℕ, List, [], ◌∷◌, ◌++◌, map, take, drop, length, get_or, set, ap, sym, subst, arith, Vec, Global}
-use mathlib.Core.Logic.{dite}
-use native.Mathlib.Decide.{ℕ_discrete}
-use Rattle.std.proofs.Math.Nat.{div-mul-le_self, div-le_of_le-mul, mul-le-mul_right, mul-div_cancel_left, mul_comm}
-use Rattle.std.proofs.lemmas.List.{map-set, map-append, take_more, take_more_set, length-map, length-set, length-take-le, drop-take, take-take, take-append-drop, take_all, get_or-set_same, get_or-set_other}
+use Rattle.std.proofs.Math.Nat.{div-mul-le_self, div-le_of_le-mul, mul-le-mul_right, mul_comm}
+use Rattle.std.proofs.lemmas.List.{map-set, map-append, take_more, take_more_set, length-map, length-set, drop-take, take-take, take-append-drop, take_all, get_or-set_other}
 use Rattle.std.proofs.lemmas.Nat.{le-div}
 use Rattle.std.proofs.lemmas.List.Elements.{All-set}
 use Rattle.steal_pool.specs.declared.post.Post.{Post}
-use Rattle.steal_pool.specs.Shares.{share_start, IsShare, EachBelow, EachFrom}
+use Rattle.steal_pool.specs.Shares.{share_start, IsShare, EachFrom}
 use Rattle.steal_pool.specs.Work.{scratch_of, AllServe}
 
 -- one block more stands as it is wanted
@@ -30,14 +28,6 @@ starts_rise m w i pos =
 
 pub starts_within : (m w i : ℕ) → i ≤ w → share_start m w i ≤ m
 starts_within m w i le = div-le_of_le-mul w (mul-le-mul_right m le)
-
--- the shares are all of the tasks
-pub starts_at_none : (m w : ℕ) → 0 < w → share_start m w 0 ≡ 0
-starts_at_none m w pos =
-    let le : share_start m w 0 ≤ 0 = div-le_of_le-mul w (omega arith) in omega arith
-
-pub ends_at_all : (m w : ℕ) → 0 < w → share_start m w w ≡ m
-ends_at_all m w pos = mul-div_cancel_left m pos
 
 -- what stands at the front, and the part after it
 pub take_part : {X : Type 0} (a n : ℕ) (xs : List X) → take a xs ++ take n (drop a xs) ≡ take (a + n) xs
@@ -65,23 +55,6 @@ gathered_all want w n old pos le before =
     let more : w * m ≤ n * m = mul-le-mul_right m le in
     let turned : m * w ≡ w * m = mul_comm m w in
     before ∙ take_all (share_start m w n) want (le-div m (n * m) w pos (omega arith))
-
-pub share_fits : (want : List (List ℕ)) (w n : ℕ) (old new : List (Vec ℕ Global)) → n < w → map (λ y. y.items) old ≡ take (share_start (length want) w n) want
-    → IsShare (length want) w n new → length old + length new ≤ length want
-share_fits want w n old new lt before share =
-    let m : ℕ = length want in
-    let le : share_start m w n ≤ m = starts_within m w n (omega arith) in
-    let le' : share_start m w (n + 1) ≤ m = starts_within m w (n + 1) (omega arith) in
-    let is : length old ≡ share_start m w n = sym (length-map old (λ (y : Vec ℕ Global). y.items)) ∙ ap length before ∙ length-take-le (share_start m w n) want le in
-    omega (arith, is, share)
-
--- a post that changes keeps what is true of the others
-pub below_set : {S : Type 0} (P : ℕ → Post S → Type 0) (posts : List (Post S)) (n : ℕ) (q : Post S) → P n q → EachBelow n P posts → EachBelow (n + 1) P (set posts n q)
-below_set P posts n q here below i d lt lt' =
-    let len : i < length posts = omega (arith, length-set posts n q) in
-    dite (ℕ_discrete i n)
-    (λ (is : i ≡ n). subst (λ (k : ℕ). P k (get_or (set posts n q) k d)) (sym is) (subst (P n) (sym (get_or-set_same posts n q d (omega (arith, is, len)))) here))
-    (λ (ne : i ≢ n). subst (P i) (sym (get_or-set_other posts n i q d ne)) (below i d (omega (arith, ne, lt)) len))
 
 pub from_set : {S : Type 0} (P : ℕ → Post S → Type 0) (posts : List (Post S)) (n : ℕ) (q : Post S) → EachFrom n P posts → EachFrom (n + 1) P (set posts n q)
 from_set P posts n q from i d le lt =

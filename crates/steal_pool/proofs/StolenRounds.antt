@@ -15,7 +15,7 @@ use Rattle.steal_pool.specs.Shares.{EachFrom}
 use Rattle.steal_table.specs.Rule.{HasEntry, CameBack, taken_over}
 use Rattle.steal_table.specs.Steps.{HasEntryOf, AllBack}
 use Rattle.steal_table.specs.Passes.{BoardId, PassState}
-use Rattle.steal_table.specs.Opened.{AllFresh, fresh, caller_of}
+use Rattle.steal_table.specs.Opened.{AllFresh, fresh}
 use Rattle.steal_pool.specs.Worker.{AllWanted, Ready}
 use Rattle.steal_table.proofs.Joins.{at_append}
 
@@ -51,18 +51,6 @@ from_set_down P posts n at q same lt here from i d le lt' =
     dite (ℕ_discrete i at)
     (λ (is : i ≡ at). subst (λ (k : ℕ). P k (get_or (set posts at q) k d)) (sym is) (subst (P at) (sym (get_or-set_same posts at q d lt)) (subst (λ (k : ℕ). P k q) (sym same) here)))
     (λ (ne : i ≢ at). subst (P i) (sym (get_or-set_other posts at i q d ne)) (from i d (omega arith) len))
-
--- the caller's pass before the first join
-pub caller_ready : (board : BoardId) (want : List (List ℕ)) (n : ℕ) (p : PassState) → p ≡ caller_of board n → Ready board want p × (p.view.number ≡ board.size.workers) × (p.view.size ≡ board.size)
-caller_ready board want n p is = (
-  record {
-    its_board = ap (λ (z : PassState). z.board) is;
-    free = ap (λ (z : PassState). z.view.held) is;
-    wanted = λ e has. absurd (some-ne-none e (sym (ap (λ (z : PassState). get_elem? z.view.entries has.0) (sym is) ∙ has.1)));
-  },
-  ap (λ (z : PassState). z.view.number) is,
-  ap (λ (z : PassState). z.view.size) is,
-)
 
 -- two ready passes make a ready one
 pub joined_ready : (board : BoardId) (want : List (List ℕ)) (own pass own' : PassState) → Ready board want own → Ready board want pass → own' ≡ record own { view = taken_over own.view pass.view } → Ready board want own'

@@ -37,7 +37,7 @@ impl<S> Post<S> {
 
 /// A post for each of so many workers, with scratches that `make` makes, one after another.
 ///
-/// Memory: the posts, and what `make` takes. A refusal leaves nothing.
+/// Memory: the posts, and what `make` takes. A failure leaves nothing.
 pub fn posts_of<S: Drop, F: Fn() -> Result<S, NoMemory>>(
     alloc: Global,
     workers: u32,

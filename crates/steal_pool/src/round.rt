@@ -82,7 +82,7 @@ impl Round {
         (board, own, passes)
     }
 
-    /// Runs the round: `posts` has a post for each worker. It cannot be refused.
+    /// Runs the round: `posts` has a post for each worker. It can't fail.
     ///
     /// Worker `i` of `w` begins with the tasks from `i·m/w` to `(i+1)·m/w`, rounded down, the upper bound excluded. It
     /// halves a range until one task is left, pushes each upper half to its deque (last in, first out), and claims and

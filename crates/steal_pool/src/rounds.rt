@@ -53,43 +53,24 @@ pub trait Rounds {
         ensures serve { AllServe (W.serves work.now) posts.new }
         ensures workers { count self.new ≡ count self.old }
     {
-        let shares = work.tasks() / work.least();
-        let (way, busy) = (self.way(shares), self.busy(shares));
-        run_in_way(way, busy, rt, alloc, work, posts, gate)
-    }
-}
-
-// Runs a round in this way, with the first posts alone.
-fn run_in_way<R: Threads + Sync, W: Work, G: Gate + Sync>(
-    way: Way,
-    busy: u32,
-    rt: &R,
-    alloc: Global,
-    work: &W,
-    posts: &mut [Post<W::Scratch>],
-    gate: &G,
-) -> Result<Blocks, NoMemory>
-    requires busy { (0 < busy) × (busy ≤ length posts.old) × (busy ≤ MAX_WORKERS) }
-    requires serve { AllServe (W.serves work.now) posts.old }
-    requires some { (0 < length (W.want work.now)) × (0 < W.wide work.now) }
-    requires small { length (W.want work.now) * W.wide work.now ≤ MAX_WORDS }
-    ensures blocks { IfOk result (λ b. b ≡ W.want work.now) }
-    ensures serve { AllServe (W.serves work.now) posts.new }
-{
-    let (first, _others) = posts.split_at_mut(busy as usize);
-    match way {
-        Way::Serial => {
-            let blocks = run_all(alloc, work, &mut first[0].scratch, gate)?;
-            Ok(Blocks::of(blocks))
-        }
-        Way::Shares => {
-            let blocks = run_shares(rt, alloc, work, first, gate)?;
-            Ok(Blocks::of(blocks))
-        }
-        Way::Stealing => {
-            let round = Round::new(alloc, work.tasks(), work.width(), busy)?;
-            let (blocks, _report) = round.run(rt, work, first, gate);
-            Ok(blocks)
+        let tasks = work.tasks();
+        let shares = tasks / work.least();
+        let busy = self.busy(shares);
+        let (first, _others) = posts.split_at_mut(busy as usize);
+        match self.way(shares) {
+            Way::Serial => {
+                let blocks = run_all(alloc, work, &mut first[0].scratch, gate)?;
+                Ok(Blocks::of(blocks))
+            }
+            Way::Shares => {
+                let blocks = run_shares(rt, alloc, work, first, gate)?;
+                Ok(Blocks::of(blocks))
+            }
+            Way::Stealing => {
+                let round = Round::new(alloc, tasks, work.width(), busy)?;
+                let (blocks, _report) = round.run(rt, work, first, gate);
+                Ok(blocks)
+            }
         }
     }
 }

@@ -42,28 +42,6 @@ pub(crate) fn try_task<W: Work, G: Gate>(
     }
 }
 
-// Claims each task of a range.
-fn try_range<W: Work, G: Gate>(
-    board: &Board,
-    work: &W,
-    scratch: &mut W::Scratch,
-    pass: &mut Pass,
-    range: TaskRange,
-    gate: &G,
-)
-    requires fits { Fits board.now.size (W.want work.now) (W.wide work.now) }
-    requires ready { Ready board.now (W.want work.now) pass.old }
-    requires tasks { range.to ≤ length (W.want work.now) }
-    requires serves { W.serves work.now scratch.old }
-    ensures ready { Ready board.now (W.want work.now) pass.new }
-    ensures number { pass.new.view.number ≡ pass.old.view.number }
-    ensures serves { W.serves work.now scratch.new }
-{
-    for task in range.from()..range.to() {
-        try_task(board, work, scratch, pass, task, gate);
-    }
-}
-
 // Halves a range until one task is left, and claims this task. The upper halves go to the deque. Where the deque
 // refuses one, its tasks are claimed at once.
 fn run_range<W: Work, G: Gate>(
@@ -86,7 +64,9 @@ fn run_range<W: Work, G: Gate>(
     let mut left = range;
     while let Some(upper) = left.split() {
         if let Err(refused) = deque.push(upper) {
-            try_range(board, work, scratch, pass, refused, gate);
+            for task in refused.from()..refused.to() {
+                try_task(board, work, scratch, pass, task, gate);
+            }
         }
     }
     try_task(board, work, scratch, pass, left.from(), gate);

@@ -59,10 +59,6 @@ module _ (size : Size) (s : Table) (rule : Rule size s) where
             (λ (h : (t ≡ length before.0) × (last.0 ≡ q)). subst (λ (j : ℕ). Stands s j q) (sym (h.0 ∙ len)) (subst (Stands s n) h.1 last.1)) (at_push before.0 last.0 q t at),
       )
 
-  -- a table that keeps the rule shows a state
-  pub shows_some : (r : RoundState) × ShowsRound size s r
-  shows_some = let all = states_below size.tasks (omega arith) in (all.0, (all.1, all.2))
-
 -- where words and slots stay, the state stays
 pub stays_shown : (size : Size) (s s' : Table) (r : RoundState) → s'.words ≡ s.words → s'.homes ≡ s.homes → ShowsRound size s r → ShowsRound size s' r
 stays_shown size s s' r words homes shows = (shows.0, λ t q at. moved t q (shows.1 t q at))

@@ -31,10 +31,6 @@ ClaimEvent i t r r' = StateOf r t open_task × HoldsNothing r i × (r' ≡ set r
 abbrev pub FinishEvent : ℕ → ℕ → List ℕ → RoundState → RoundState → Type 0
 FinishEvent i t b r r' = StateOf r t (held_by i) × (r' ≡ set r t (done_by i b))
 
--- every task is done
-abbrev pub IsClosed : RoundState → Type 0
-IsClosed r = (t : ℕ) (q : TaskState) → StateOf r t q → (i : ℕ) × (b : List ℕ) × (q ≡ done_by i b)
-
 -- the word and the slot of the task t say that it is in this state
 abbrev pub Stands : Table → ℕ → TaskState → Type 0
 Stands s t open_task = Says s t waiting

@@ -1,6 +1,6 @@
 use Rattle.std.proofs.Common.{◌∙◌, ap}
 use Rattle.steal_table.specs.Passes.{PassState}
-use Rattle.part_tests.proofs.rounds_by_hand.finish_with_seven.Goals as goal
+use Rattle.round_tests.proofs.by_hand.finish_with_seven.Goals as goal
 
 pub returns-clause-board : goal.returns-clause-board
 returns-clause-board c = ap (λ (z : PassState). z.board) (c.finish.ensures 0 c.requires.holds) ∙ c.requires.board

@@ -2,7 +2,7 @@ use Rattle.std.proofs.Common.{◌∙◌, ap, sym, arith}
 use Rattle.steal_table.specs.declared.view.Size.{Size}
 use Rattle.steal_table.specs.Passes.{PassState}
 use Rattle.steal_pool.proofs.StolenRounds.{joined_back, all_came_back}
-use Rattle.part_tests.proofs.rounds_by_hand.join_both.Goals as goal
+use Rattle.round_tests.proofs.by_hand.join_both.Goals as goal
 
 pub returns-clause-back : goal.returns-clause-back
 returns-clause-back c =

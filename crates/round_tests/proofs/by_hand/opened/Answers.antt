@@ -5,7 +5,7 @@ use Rattle.steal_table.proofs.Finishes.{at_longer, at_last}
 use Rattle.steal_table.specs.declared.view.Size.{Size}
 use Rattle.steal_table.specs.Opened.{AllFresh, fresh}
 use Rattle.steal_table.specs.Passes.{BoardId, PassState}
-use Rattle.part_tests.proofs.rounds_by_hand.opened.Goals as goal
+use Rattle.round_tests.proofs.by_hand.opened.Goals as goal
 
 last_fresh : (board : BoardId) (n : ℕ) (ps rest : List PassState) (p : PassState) → AllFresh board (n + 1) ps → ps ≡ rest ++ p ∷ [] → (p ≡ fresh board n) × AllFresh board n rest
 last_fresh board n ps rest p all is =

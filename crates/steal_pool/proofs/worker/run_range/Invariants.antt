@@ -12,3 +12,10 @@ invariant-loop-upper g l = record {
 
 abbrev pub decreases-loop-upper : goal.decreases-loop-upper
 decreases-loop-upper g l = l.left.to - l.left.from
+
+abbrev pub invariant-loop-task : goal.invariant-loop-task
+invariant-loop-task g l = record {
+  ready : Ready l.board (g.W.Work.want l.work) l.pass;
+  number : l.pass.view.number ≡ l.fn.pass.view.number;
+  serves : g.W.Work.serves l.work l.scratch;
+}

@@ -1,6 +1,6 @@
 use Rattle.std.proofs.Common.{◌*◌, ◌%◌, ◌^◌, ◌<◌, ◌∙◌, ℕ, List, [], ◌∷◌, sym, arith}
 use Rattle.std.proofs.lemmas.List.FromFn.{get_or-map-range_with_len, length-map-range_with_len}
-use Rattle.part_tests.proofs.rounds.SquaresWork.run.Goals as goal
+use Rattle.round_tests.proofs.squares.SquaresWork.run.Goals as goal
 
 pub returns-clause-out : goal.returns-clause-out
 returns-clause-out c =
