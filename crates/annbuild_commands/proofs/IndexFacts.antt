@@ -1,5 +1,5 @@
 -- The index that a build gives, its line, and the words of its rows.
-use Rattle.std.proofs.Common.{◌≡◌, ◌∙◌, ◌≤◌, ◌<◌, ℕ, List, length, refl, sym, ap, arith, Some, None, true, false, cond, nat_lt}
+use Rattle.std.proofs.Common.{◌≡◌, ◌∙◌, ◌≤◌, ◌<◌, ℕ, List, length, refl, sym, ap, subst, arith, Result, Ok, Err, IfOk, OnOk, Some, None, Bool, true, false, cond, nat_lt}
 use Rattle.std.specs.Prelude.{◌&&◌, ◌==◌}
 use Rattle.std.proofs.lemmas.Bool.{ltb-true, ltb-false}
 use Rattle.std.proofs.lemmas.Bool.Decides.{nat_tests}
@@ -15,9 +15,11 @@ use Rattle.vamana_build.specs.declared.settings.VamanaSettings.{VamanaSettings}
 use Rattle.vamana_build.specs.Builds.{order_of}
 use Rattle.vamana_build.specs.VamanaIndex.{vamana_index}
 use Rattle.annbuild_lines.specs.Lines.{built_text}
+use Rattle.annbuild_lines.specs.declared.fault.Fault.{Fault}
 use Rattle.annbuild_lines.specs.declared.fault.Fault.TheVariants.{TooLarge}
+use Rattle.command_shapes.proofs.Ending.{IsOfFiles}
 use Rattle.command_options.specs.declared.settings.Settings.{Settings}
-use Rattle.annbuild_commands.specs.IndexOf.{vamana_of, file_of, line_of, told_of, kind_at}
+use Rattle.annbuild_commands.specs.IndexOf.{vamana_of, index_of, file_of, line_of, told_of, kind_at}
 use Rattle.annbuild_commands.specs.Building.{words_refusal}
 
 pub file_is : (i : Contents) → text_of i ≡ file_of i
@@ -27,6 +29,12 @@ file_is i = refl
 pub line_is : (i : Contents) → built_text (told_of i) ≡ line_of i
 unfolding line_of
 line_is i = refl
+
+some_same : (u v : Fault) → Some u ≡ Some v → u ≡ v
+some_same u v s = cc
+
+none_is_some : (u : Fault) → None ≡ Some u → ⊥
+none_is_some u e = cc
 
 -- the kind with a kind's code is that kind
 pub kind_back : (k : Kind) → kind_at (kind_code k) ≡ k
@@ -55,6 +63,24 @@ pub same_index : (X : List (List ℕ)) (s : VamanaSettings) (o : Settings) → s
     → s.alpha.num ≡ o.num → s.alpha.den ≡ o.den → s.cap ≡ o.cap → vamana_index X s ≡ vamana_of X o
 unfolding order_of vamana_of
 same_index X s o a b c d e f g h = λ i. vamana_of X (record o { order = a i; start = b i; seed = c i; degree = d i; beam = e i; num = f i; den = g i; cap = h i })
+
+-- it is the index that settings of its kind ask for
+pub index_is : (X : List (List ℕ)) (o : Settings) → vamana_of X o ≡ index_of X o
+unfolding index_of
+index_is X o = refl
+
+-- an index that fits
+pub both_ok : {T : Type 0} (r : Result T Fault) (P : Type 0) (Q R : T → Type 0) → ((x : T) → P → Q x → R x) → OnOk r P → IfOk r Q → IfOk r R
+both_ok (Ok x) P Q R f p q = f x p q
+both_ok (Err fault) P Q R f p q = tt
+
+-- words over their limit are a refusal of files
+words_of_files : (over : Bool) (words : ℕ) (fault : Fault) → cond over (Some (TooLarge Words words MAX_WORDS)) None ≡ Some fault → IsOfFiles fault
+words_of_files true words fault e = subst IsOfFiles (some_same (TooLarge Words words MAX_WORDS) fault e) tt
+words_of_files false words fault e = absurd (none_is_some fault e)
+
+pub words_fault : (words : ℕ) (fault : Fault) → words_refusal words ≡ Some fault → IsOfFiles fault
+words_fault words fault e = words_of_files (nat_lt MAX_WORDS words) words fault e
 
 -- the words of the rows against their limit
 pub words_over : (words : ℕ) → MAX_WORDS < words → words_refusal words ≡ Some (TooLarge Words words MAX_WORDS)
