@@ -33,34 +33,6 @@ fn ends_before<F: Shelf>(
     Ok(got == 0)
 }
 
-// Reads the rows of a layer and keeps none, up to the first rule that is broken.
-fn pass_rows<F: Shelf>(
-    shelf: &mut F,
-    name: &str,
-    window: &mut Window,
-    members: Members,
-    bound: u32,
-    at: u64,
-) -> Result<(), IndexFault>
-    requires place { at + 4294967296 < 2 ^ 64 }
-    requires bound { bound ≤ MAX_DEGREE }
-    requires count { count_in members ≤ MAX_POINTS }
-    requires ascending { AreAscending members }
-    requires shows { IfSome (F.shown shelf.old).held (λ files. Shows (bytes_of files name.now) window.old) }
-    ensures broken { IfErr result (λ fault. IfSome (F.shown shelf.old).held (λ files. Fails fault (rows_at (holds members.entry) bound (bytes_of files name.now) (owns members.entry) at []))) }
-    ensures shows { IfSome (F.shown shelf.old).held (λ files. Shows (bytes_of files name.now) window.new) }
-    ensures only_reads { OnlyReads (F.shown shelf.old) (F.shown shelf.new) name.now (IsErrOf result IndexFault.Read) }
-{
-    let mut row = [0u32; MAX_DEGREE as usize];
-    let mut place = at;
-    for i in 0..members.count() {
-        let own = members.at(i);
-        let len = read_row(shelf, name, window, members, bound, own, place, &mut row)?;
-        place += 4 + 4 * len as u64;
-    }
-    Ok(())
-}
-
 /// Fails with the first broken rule of a layer's rows if the file is too short for a word of each row. It takes no
 /// memory.
 pub(crate) fn see_room<F: Shelf>(
@@ -84,5 +56,12 @@ pub(crate) fn see_room<F: Shelf>(
     if !is_short {
         return Ok(());
     }
-    pass_rows(shelf, name, window, members, bound, at)
+    let mut row = [0u32; MAX_DEGREE as usize];
+    let mut place = at;
+    for i in 0..members.count() {
+        let own = members.at(i);
+        let len = read_row(shelf, name, window, members, bound, own, place, &mut row)?;
+        place += 4 + 4 * len as u64;
+    }
+    Ok(())
 }

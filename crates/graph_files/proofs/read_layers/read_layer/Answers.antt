@@ -90,14 +90,13 @@ pub returns-clause-words : goal.returns-clause-words
 returns-clause-words g c =
     let ids : List ℕ = c.in_ok-ids.ids.items in
     let same : length c.in_ok-graph.graph.0.rows ≡ length ids = c.in_ok-graph.ensures.shape.1 ∙ ap length c.deref-2.ensures.value in
-    let counted = sound_count c.args.degree (count_in c.args.below) c.args.words c.args.at c.in_ok-count.count (subst (λ k. None ≡ members_fault c.args.degree k c.args.words c.args.at c.in_ok-count.count) c.count.ensures.count c.in-None.ensures) in
     let many : length c.of.result.entries ≡ c.in_ok-count.count = ap (λ (l : Layered). length l.entries) c.of.ensures ∙ length-zip ids c.in_ok-graph.graph.0.rows same ∙ c.in_ok-ids.ensures.count in
-    subst (λ k. c.args.words + k * (c.args.degree + 1) ≤ 134217728) (sym many) counted.fits
+    subst (λ k. c.args.words + k * (c.args.degree + 1) ≤ 134217728) (sym many)
+    (sound_count c.args.degree (count_in c.args.below) c.args.words c.args.at c.in_ok-count.count (subst (λ k. None ≡ members_fault c.args.degree k c.args.words c.args.at c.in_ok-count.count) c.count.ensures.count c.in-None.ensures)).fits
 
 pub returns-clause-count : goal.returns-clause-count
 returns-clause-count g c =
     let ids : List ℕ = c.in_ok-ids.ids.items in
     let same : length c.in_ok-graph.graph.0.rows ≡ length ids = c.in_ok-graph.ensures.shape.1 ∙ ap length c.deref-2.ensures.value in
-    let counted = sound_count c.args.degree (count_in c.args.below) c.args.words c.args.at c.in_ok-count.count (subst (λ k. None ≡ members_fault c.args.degree k c.args.words c.args.at c.in_ok-count.count) c.count.ensures.count c.in-None.ensures) in
     let many : length c.of.result.entries ≡ c.in_ok-count.count = ap (λ (l : Layered). length l.entries) c.of.ensures ∙ length-zip ids c.in_ok-graph.graph.0.rows same ∙ c.in_ok-ids.ensures.count in
-    omega (arith, counted.within, c.requires.count)
+    omega (arith, (sound_count c.args.degree (count_in c.args.below) c.args.words c.args.at c.in_ok-count.count (subst (λ k. None ≡ members_fault c.args.degree k c.args.words c.args.at c.in_ok-count.count) c.count.ensures.count c.in-None.ensures)).within, c.requires.count)

@@ -1,7 +1,7 @@
 use Rattle.std.proofs.Common.{◌≡◌, ◌+◌, ◌*◌, ◌++◌, ◌∷◌, [], ◌<◌, length, take, arith, refl, subst, List, ℕ, IfSome, rules}
 use Rattle.std.proofs.lemmas.List.{length-take-le}
 use Rattle.ann_shelf.specs.Files.{bytes_of}
-use Rattle.ann_shelf.proofs.Only.{only_reads_same, only_reads_then}
+use Rattle.ann_shelf.proofs.Only.{only_reads_as, only_reads_then}
 use Rattle.bin_files.proofs.Pieces.{told_always, both_told}
 use Rattle.graph_files.specs.declared.fault.IndexFault.{IndexFault}
 use Rattle.graph_files.specs.Grammar.{rows_at}
@@ -9,7 +9,7 @@ use Rattle.graph_files.specs.Reading.{Fails, Shows}
 use Rattle.graph_rows.specs.Members.{holds, owns}
 use Rattle.graph_files.proofs.RowsLoop.{rows_on, rows_broken}
 use Rattle.graph_files.proofs.Told.{broken_err}
-use Rattle.graph_files.proofs.row_room.pass_rows.Goals as goal
+use Rattle.graph_files.proofs.row_room.see_room.Goals as goal
 
 pub loop-i-init : goal.loop-i-init
 loop-i-init g c = record {
@@ -17,14 +17,14 @@ loop-i-init g c = record {
   room = search rules;
   end = omega arith;
   shows = c.requires.shows;
-  only_reads = only_reads_same _ _ (λ never. never);
+  only_reads = only_reads_as _ _ _ c.in_ok-is_short.ensures.only_reads (λ never. absurd never);
 }
 
 pub returns-in_err-len-clause-broken : goal.returns-in_err-len-clause-broken
 returns-in_err-len-clause-broken g c =
     let held = holds c.args.members in
     let own = owns c.args.members in
-    broken_err c.from_residual.result c.in_err-len.field-0.0 (λ (fault : IndexFault). IfSome (g.F.Shelf.shown c.args.shelf.now).held (λ files. Fails fault (rows_at held c.args.bound (bytes_of files c.args.name.now) own c.args.at []))) c.from_residual.ensures.1
+    broken_err c.from_residual-in_err-len.result c.in_err-len.field-0.0 (λ (fault : IndexFault). IfSome (g.F.Shelf.shown c.args.shelf.now).held (λ files. Fails fault (rows_at held c.args.bound (bytes_of files c.args.name.now) own c.args.at []))) c.from_residual-in_err-len.ensures.1
     (both_told (g.F.Shelf.shown c.args.shelf.now).held (g.F.Shelf.shown c.loop-i.shelf).held c.loop-i.invariant.only_reads.held c.loop-i.invariant.rows c.in_err-len.ensures.row (λ files so_far broken.
     rows_broken held c.args.bound (bytes_of files c.args.name.now) c.in_err-len.field-0.0 own c.loop-i.i c.loop-i.place c.at-own.result so_far.0
     (rows_at held c.args.bound (bytes_of files c.args.name.now) own c.args.at []) (omega (arith, c.count-i-end.ensures.owns)) c.at-own.ensures broken so_far.1))

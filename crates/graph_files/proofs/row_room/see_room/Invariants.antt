@@ -4,7 +4,7 @@ use Rattle.ann_shelf.specs.Files.{bytes_of}
 use Rattle.graph_files.specs.Grammar.{rows_at}
 use Rattle.graph_rows.specs.Members.{holds, owns}
 use Rattle.graph_files.specs.Reading.{Shows}
-use Rattle.graph_files.proofs.row_room.pass_rows.Given as goal
+use Rattle.graph_files.proofs.row_room.see_room.Given as goal
 
 abbrev pub invariant-loop-i : goal.invariant-loop-i
 invariant-loop-i g l = record {
