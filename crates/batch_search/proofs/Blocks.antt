@@ -1,25 +1,10 @@
 -- Answers in blocks.
-use Rattle.std.proofs.Common.{◌≡◌, ℕ, zero, suc, ◌+◌, ◌*◌, ◌-◌, ◌<◌, ◌≤◌, List, [], ◌∷◌, ◌++◌, map, take, drop, replicate, length, get_or, set, refl, ap, ◌∙◌, arith, length-append, append_assoc, length-take}
+use Rattle.std.proofs.Common.{◌≡◌, ℕ, zero, suc, ◌+◌, ◌*◌, ◌-◌, ◌<◌, ◌≤◌, List, [], ◌∷◌, ◌++◌, map, take, drop, replicate, length, get_or, refl, ap, ◌∙◌, arith, length-append, length-take}
 use Rattle.std.specs.Prelude.{slice_index, min}
 use Rattle.std.specs.List.{All}
-use Rattle.std.proofs.lemmas.List.{take_more, take_more_set, length-set}
-use Rattle.std.proofs.lemmas.List.Concat.{flat_map-append}
 use Rattle.std.proofs.lemmas.List.Elements.{All-nil, All-cons}
 use Rattle.ann_defs.specs.declared.near.Near.{Near}
 use Rattle.batch_search.specs.Blocks.{words_of, block_of, pairs_in, answer_in, HasAnswer}
-
--- two words more
-pub two_more : (out ws : List ℕ) (i j a b : ℕ) → j ≡ i + 1 → j < length out → take i out ≡ ws → take (j + 1) (set (set out i a) j b) ≡ ws ++ a ∷ b ∷ []
-two_more out ws i j a b e lt front =
-    let first : take (i + 1) (set out i a) ≡ ws ++ a ∷ [] = take_more_set out i a (omega arith) ∙ ap (λ (l : List ℕ). l ++ a ∷ []) front in
-    take_more_set (set out i a) j b (omega (arith, length-set out i a))
-    ∙ ap (λ (n : ℕ). take n (set out i a) ++ b ∷ []) e
-    ∙ ap (λ (l : List ℕ). l ++ b ∷ []) first
-    ∙ append_assoc ws (a ∷ []) (b ∷ [])
-
-pub words_more : (nears : List Near) (at : ℕ) (d : Near) → at < length nears → words_of (take (at + 1) nears) ≡ words_of (take at nears) ++ (get_or nears at d).id ∷ (get_or nears at d).dist ∷ []
-words_more nears at d lt =
-    ap words_of (take_more nears at d lt) ∙ flat_map-append (λ (x : Near). x.id ∷ x.dist ∷ []) (take at nears) (get_or nears at d ∷ [])
 
 pub length-words : (nears : List Near) → length (words_of nears) ≡ 2 * length nears
 length-words [] = refl

@@ -46,9 +46,9 @@ impl Answers {
         self.blocks.count()
     }
 
-    /// Copies the answer of query `j` of the round to the front of `out`. The result is how many it has.
+    /// Copies the answer of query `j` of the round to the front of `out`. Returns how many it has.
     ///
-    /// It takes no memory. `out` may be longer: what comes after is any.
+    /// It takes no memory. `out` may be longer: what comes after isn't said.
     pub fn answer(&self, j: u32, out: &mut [Near]) -> usize
         requires j { j < length self.now }
         requires room { length (slice_index_or self.now j []) ≤ length out.old }

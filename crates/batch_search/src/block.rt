@@ -22,7 +22,7 @@ pub fn write_answer(nears: &[Near], out: &mut [u32])
     }
 }
 
-/// Reads the answer in a block. The result is how many there are.
+/// Reads the answer in a block. Returns how many there are.
 pub(crate) fn read_answer(block: &[u32], out: &mut [Near]) -> usize
     requires whole { HasAnswer block.now }
     requires room { length (answer_in block.now) ≤ length out.old }

@@ -16,8 +16,6 @@ mod posts;
 mod queries;
 mod round;
 mod tasks;
-#[cfg(test)]
-mod tests;
 
 pub use answering::Answering;
 pub use answers::Answers;

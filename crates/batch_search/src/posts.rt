@@ -12,7 +12,7 @@ use steal_pool::{Post, posts_of};
 
 /// A post for each worker, which serves searches of these points with this beam, any number of rounds.
 ///
-/// Memory: a `Scratch` for each worker. A refusal leaves nothing.
+/// Memory: a `Scratch` for each worker. A failure leaves nothing.
 pub fn posts_for(
     alloc: Global,
     points: &Points,

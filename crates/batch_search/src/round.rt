@@ -14,8 +14,8 @@ use steal_pool::{Post, Rounds};
 
 /// Answers the queries from `from` on, at most 4,096 of them, each as a task of one round of the pool.
 ///
-/// A round takes memory for its answers, `4 * (2 * longest + 1)` bytes for each query, and nothing else. Want of memory is
-/// the only refusal. Then too the posts still serve, and the round may be run again. The next round is from `from`
+/// A round takes memory for its answers, `4 * (2 * longest + 1)` bytes for each query, and nothing else. It fails
+/// only with `NoMemory`. Then too the posts still serve, and the round may be run again. The next round is from `from`
 /// and the count of the answers on.
 pub fn answer_round<R: Threads + Sync, P: Rounds, A: Answering, G: Gate + Sync>(
     rt: &R,

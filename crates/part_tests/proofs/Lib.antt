@@ -1,1 +1,2 @@
 mod LayerBatch
+mod PrunedLine

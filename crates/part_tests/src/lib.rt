@@ -4,11 +4,19 @@
 #![tactic(auto)]
 
 #[cfg(test)]
+mod asking;
+#[cfg(test)]
 mod batches;
+#[cfg(test)]
+mod building;
+#[cfg(test)]
+mod counts;
 #[cfg(test)]
 mod distance;
 #[cfg(test)]
 mod folders;
+#[cfg(test)]
+mod line;
 #[cfg(test)]
 mod merging;
 #[cfg(test)]
@@ -18,12 +26,8 @@ mod orders;
 #[cfg(test)]
 mod point_files;
 #[cfg(test)]
-mod rounds;
+mod pruning;
 #[cfg(test)]
-mod rounds_begun;
-#[cfg(test)]
-mod rounds_by_hand;
-#[cfg(test)]
-mod rounds_waiting;
+mod searching;
 #[cfg(test)]
 mod shelves;

@@ -7,7 +7,7 @@ use Rattle.std.proofs.lemmas.List.{length-map}
 use Rattle.std.proofs.lemmas.List.Elements.{All-weaker}
 use Rattle.ann_defs.specs.declared.near.Near.{Near}
 use Rattle.ann_defs.specs.Distance.{point}
-use Rattle.ann_defs.specs.Ordered.{Has, Ascends, ordered}
+use Rattle.ann_defs.specs.Ordered.{Ascends, ordered}
 use Rattle.ann_defs.specs.Nearness.{near_cmp, all_near, ids_of}
 use Rattle.ann_defs.specs.RobustPrune.{kept, stays, pruned_row}
 use Rattle.ann_defs.specs.GreedySearch.{search_of}

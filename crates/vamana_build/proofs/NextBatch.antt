@@ -37,6 +37,9 @@ module _ (points : List (List ℕ)) (s : VamanaSettings) where
         | false ↦ λ _ q. cc
       ] refl (sym e ∙ h)
 
+  pub few_left : (k limit : ℕ) (o : Option (ℕ × ℕ)) (b : ℕ × ℕ) → o ≡ next_of points s k → o ≡ Some b → total ≤ limit → k < limit
+  few_left k limit o b e h few = let less = some_left k o b e h in omega (arith, less, few)
+
   -- where there is none, all are
   pub none_left : (k : ℕ) (o : Option (ℕ × ℕ)) → k ≤ total → o ≡ next_of points s k → o ≡ None → k ≡ total
   none_left k o within e h =

@@ -1,7 +1,7 @@
 //! Builds a Vamana graph in batches of doubling size (ParlayANN's batch insertion over DiskANN's GreedySearch and
 //! RobustPrune), by any number of workers: the graph is the same for each.
 //!
-//! A `Plan` holds what is decided before the first batch, `Vamana::step` puts one batch in and answers the rows that it
+//! A `Plan` holds what is decided before the first batch, `Vamana::step` puts one batch in and returns the rows that it
 //! changed, and `Vamana::into_index` gives the finished index.
 #![tactic(auto)]
 
@@ -22,5 +22,3 @@ pub use plan::Plan;
 pub use settings::VamanaSettings;
 pub use vamana::Vamana;
 
-#[cfg(test)]
-mod tests;

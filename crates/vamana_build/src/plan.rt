@@ -36,7 +36,7 @@ impl<'p> Plan<'p> {
     /// The plan for a point set and settings.
     ///
     /// The settings are in range, and the graph's words, `degree + 1` for each point, are at most 134,217,728. Four
-    /// bytes for each point are kept; in between the seeded order takes twenty. A refusal leaves nothing.
+    /// bytes for each point are kept; in between the seeded order takes twenty. A failure leaves nothing.
     pub fn make(
         alloc: Global,
         points: &'p Points,

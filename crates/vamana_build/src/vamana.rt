@@ -95,13 +95,13 @@ impl<'p> Vamana<'p> {
         self.batches.total()
     }
 
-    /// Puts the next batch in, and answers the rows that it changed; None where all batches are in.
+    /// Puts the next batch in, and returns the rows that it changed, or None where all batches are in.
     ///
     /// The pool has as many workers as the build was made for. The new rows of the batch are searched and pruned in
     /// the graph before it, in one round with a task for each point; in a second round each target of their reverse
     /// edges gets its merged row; and then the graph changes, without taking memory. `gate.batch(v)` is called before,
-    /// with the number of the batch. A refusal is want of memory, and leaves graph and number of batches as they were:
-    /// the step may be tried again.
+    /// with the number of the batch. Fails only with `NoMemory`, and then graph and number of batches are as before: the
+    /// step may be tried again.
     pub fn step<R: Threads + Sync, P: Rounds, G: Gate + Sync>(
         &mut self,
         rt: &R,

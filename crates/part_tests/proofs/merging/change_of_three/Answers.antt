@@ -1,4 +1,4 @@
-use Rattle.std.proofs.Common.{◌≡◌, sym, subst, ℕ, List, [], ◌∷◌, length}
+use Rattle.std.proofs.Common.{◌≡◌, sym, subst, ℕ, [], ◌∷◌, length}
 use Rattle.graph_rows.specs.Layers.{Layered, layer_row}
 use Rattle.graph_rows.specs.Index.{layer_ids}
 use Rattle.ann_defs.specs.Graph.{has}

@@ -1,4 +1,4 @@
-use Rattle.std.proofs.Common.{◌≡◌, ◌≤◌, length, arith}
+use Rattle.std.proofs.Common.{◌≡◌, length, arith}
 use Rattle.std.proofs.lemmas.List.{length-map}
 use Rattle.batch_insert.specs.declared.pair.Pair.{Pair}
 use Rattle.batch_insert.specs.Sources.{sources_in}

@@ -1,31 +1,25 @@
 use Rattle.std.proofs.Common.{◌≡◌, ◌∙◌, ◌+◌, ◌++◌, ◌<◌, ℕ, List, length, take, drop, sym, ap, subst, arith}
 use Rattle.std.proofs.lemmas.List.{take_at}
+use Rattle.ann_defs.specs.declared.limits.TheConstants.{MAX_POINTS}
 use Rattle.beam_search.specs.Room.{Room}
 use Rattle.steal_pool.specs.declared.post.Post.{Post}
 use Rattle.vamana_build.specs.Builds.{batches_of}
 use Rattle.vamana_build.specs.Building.{Building, IsBuilt}
 use Rattle.vamana_build.specs.Changes.{change_at}
 use Rattle.vamana_build.proofs.Plans.{start_below}
-use Rattle.vamana_build.proofs.NextBatch.{some_left, stepped}
+use Rattle.vamana_build.proofs.NextBatch.{some_left, few_left, stepped}
 use Rattle.vamana_build.proofs.vamana.Vamana.step.Goals as goal
 
 pub overflow_add-self-inside : goal.overflow_add-self-inside
 overflow_add-self-inside g c =
     let v = c.self.inside in
-    let plan = v.plan.now in
-    let built = c.self.invariant.0 in
-    let less = some_left plan.points.now.vectors plan.settings v.batch v.next _ built.next_is c.in-Some.is in
-    let few = built.few in
-    omega (arith, less, few)
+    let less = few_left v.plan.now.points.now.vectors v.plan.now.settings v.batch MAX_POINTS v.next _ c.self.invariant.0.next_is c.in-Some.is c.self.invariant.0.few in
+    omega (arith, less)
 
 pub change_of-requires-clause-few : goal.change_of-requires-clause-few
 change_of-requires-clause-few g c κs within =
     let v = c.self.inside in
-    let plan = v.plan.now in
-    let built = c.self.invariant.0 in
-    let less = some_left plan.points.now.vectors plan.settings v.batch v.next _ built.next_is c.in-Some.is in
-    let few = built.few in
-    omega (arith, less, few)
+    few_left v.plan.now.points.now.vectors v.plan.now.settings v.batch MAX_POINTS v.next _ c.self.invariant.0.next_is c.in-Some.is c.self.invariant.0.few
 
 pub change_of-requires-clause-left : goal.change_of-requires-clause-left
 change_of-requires-clause-left g c κs within =
