@@ -4,8 +4,8 @@ ghost use Rattle.command_shapes.specs.Faults.{points_fault_of, index_fault_of, w
 
 use ann_shelf::Slip;
 use annbuild_lines::{Fault, Rule};
-use command_options::Role;
 use bin_files::PointsFault;
+use command_options::Role;
 use graph_files::IndexFault;
 
 /// A fault of a file of points.

@@ -10,8 +10,8 @@ ghost use Rattle.bin_files.specs.Rows.{ArePoints};
 use crate::faults::{index_fault, points_fault};
 use ann_shelf::Shelf;
 use annbuild_lines::Fault;
-use command_options::Role;
 use bin_files::{Points, read_points};
+use command_options::Role;
 use graph_files::{Index, read_index};
 use std::alloc::Global;
 

@@ -13,8 +13,8 @@ use crate::faults::write_fault;
 use crate::printing::print;
 use ann_shelf::{Out, Shelf, Slip};
 use annbuild_lines::Fault;
-use command_options::Role;
 use bin_files::{Points, write_points};
+use command_options::Role;
 use graph_files::{Index, write_index};
 
 /// What a file can hold.
