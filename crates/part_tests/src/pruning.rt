@@ -43,7 +43,10 @@ fn row_at(alloc: Global, alpha: Alpha, degree: u32) -> Result<(usize, [u32; 3]),
 
 #[test]
 fn a_tie_removes_the_farther_candidate(rt: HostRuntime) -> Result<(), Fail> {
-    assert_eq!(rt; row_at(rt.alloc(), Alpha { num: 4, den: 1 }, 2)?, (1, [1, 7, 7]));
+    assert_eq!(rt;
+        row_at(rt.alloc(), Alpha { num: 4, den: 1 }, 2)?,
+        (1, [1, 7, 7])
+    );
     Ok(())
 }
 

@@ -21,4 +21,3 @@ pub use change::BatchChange;
 pub use plan::Plan;
 pub use settings::VamanaSettings;
 pub use vamana::Vamana;
-

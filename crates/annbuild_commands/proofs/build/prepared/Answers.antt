@@ -6,11 +6,10 @@ use Rattle.bin_files.proofs.Pieces.{told_then}
 use Rattle.ann_defs.specs.Distance.{PointSet}
 use Rattle.graph_rows.specs.View.{contents}
 use Rattle.command_options.specs.declared.role.Role.TheVariants.{Base}
-use Rattle.annbuild_lines.specs.declared.fault.Fault.{Fault}
 use Rattle.annbuild_lines.specs.declared.fault.Fault.TheVariants.{NoMemory}
 use Rattle.ann_shelf.specs.Written.{Got}
 use Rattle.command_shapes.specs.Ends.{Ends}
-use Rattle.command_shapes.specs.Reading.{points_read, points_in}
+use Rattle.command_shapes.specs.Reading.{points_read}
 use Rattle.command_shapes.proofs.Told.{on_fault}
 use Rattle.command_shapes.proofs.ReadFacts.{none_read}
 use Rattle.command_shapes.proofs.Ending.{fails_at, fails_rest, fails_memory}
