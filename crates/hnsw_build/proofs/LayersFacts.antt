@@ -1,0 +1,47 @@
+-- What the layers before a batch hold.
+use Rattle.std.proofs.Common.{◌≡◌, ◌∙◌, ℕ, suc, ◌-◌, ◌≤◌, List, length, sym, ap, arith}
+use Rattle.std.specs.Prelude.{nat_lt}
+use Rattle.ann_defs.specs.Graph.{row_in}
+use Rattle.graph_rows.specs.Flat.{Flat}
+use Rattle.graph_rows.specs.Layers.{layer_row}
+use Rattle.layered_search.specs.Entering.{layer_at, holds_at}
+use Rattle.hnsw_build.specs.declared.layers.Layers.{Layers}
+use Rattle.hnsw_build.specs.Layering.{is_in, top_of}
+use Rattle.hnsw_build.specs.LayeredInsert.{row_of_layer}
+use Rattle.hnsw_build.specs.Laws.{AreGoodLayers}
+use Rattle.hnsw_build.specs.Grown.{build_in, layers_in}
+use Rattle.hnsw_build.proofs.LevelFacts.{base_held}
+use Rattle.hnsw_build.proofs.PlanFacts.{plan_layered}
+use Rattle.hnsw_build.proofs.Memory.{good, count_is, held_is, row_is}
+
+module _ (w : Layers) where
+  abbrev points : List (List ℕ)
+  points = w.plan.now.points.now.vectors
+
+  abbrev levels : List ℕ
+  levels = w.plan.now.levels.items
+
+  pub good_in : AreGoodLayers (build_in w) (layers_in w)
+  good_in = good points w.plan.now.settings levels (plan_layered w.plan.now) w.done
+
+  pub base_count : length w.base.now.rows ≡ length points
+  base_count = ap (λ (g : Flat). length g.rows) w.base_is ∙ good_in.count 0 (omega arith)
+
+  pub base_row_is : row_in w.base.now.rows ≡ row_of_layer (layers_in w) 0
+  base_row_is = ap (λ (g : Flat). row_in g.rows) w.base_is
+
+  pub base_held_is : (λ u. nat_lt u (length w.base.now.rows)) ≡ is_in levels 0
+  base_held_is = λ i u. (ap (nat_lt u) (base_count ∙ sym w.plan.now.levelled) ∙ sym (base_held levels u)) i
+
+  pub upper_len : length w.upper.now ≡ top_of levels
+  upper_len = count_is points w.plan.now.settings levels (plan_layered w.plan.now) w.done w.upper.now w.upper_is
+
+  module _ (l : ℕ) (some : 1 ≤ l) (le : l ≤ top_of levels) where
+    here : suc (l - 1) ≡ l
+    here = omega arith
+
+    pub upper_held_is : holds_at w.upper.now (l - 1) ≡ is_in levels l
+    upper_held_is = (λ i u. held_is points w.plan.now.settings levels (plan_layered w.plan.now) w.done w.upper.now w.upper_is (l - 1) u (omega arith) i) ∙ ap (is_in levels) here
+
+    pub upper_row_is : layer_row (layer_at w.upper.now (l - 1)) ≡ row_of_layer (layers_in w) l
+    upper_row_is = (λ i u. row_is points w.plan.now.settings levels (plan_layered w.plan.now) w.done w.upper.now w.upper_is (l - 1) u (omega arith) i) ∙ ap (row_of_layer (layers_in w)) here
