@@ -14,12 +14,14 @@ use Rattle.graph_rows.specs.WellFormed.{layers_fit}
 use Rattle.vamana_build.specs.declared.settings.VamanaSettings.{VamanaSettings}
 use Rattle.vamana_build.specs.Builds.{order_of}
 use Rattle.vamana_build.specs.VamanaIndex.{vamana_index}
+use Rattle.hnsw_build.specs.HnswIndex.{hnsw_index}
+use Rattle.hnsw_build.specs.declared.settings.HnswSettings.{HnswSettings}
 use Rattle.annbuild_lines.specs.Lines.{built_text}
 use Rattle.annbuild_lines.specs.declared.fault.Fault.{Fault}
 use Rattle.annbuild_lines.specs.declared.fault.Fault.TheVariants.{TooLarge}
 use Rattle.command_shapes.proofs.Ending.{IsOfFiles}
 use Rattle.command_options.specs.declared.settings.Settings.{Settings}
-use Rattle.annbuild_commands.specs.IndexOf.{vamana_of, index_of, file_of, line_of, told_of, kind_at}
+use Rattle.annbuild_commands.specs.IndexOf.{vamana_of, hnsw_of, hnsw_settings, levels_for, index_by, index_of, words_by, words_of, file_of, line_of, told_of, kind_at}
 use Rattle.annbuild_commands.specs.Building.{words_refusal}
 
 pub file_is : (i : Contents) → text_of i ≡ file_of i
@@ -64,10 +66,22 @@ pub same_index : (X : List (List ℕ)) (s : VamanaSettings) (o : Settings) → s
 unfolding order_of vamana_of
 same_index X s o a b c d e f g h = λ i. vamana_of X (record o { order = a i; start = b i; seed = c i; degree = d i; beam = e i; num = f i; den = g i; cap = h i })
 
--- it is the index that settings of its kind ask for
-pub index_is : (X : List (List ℕ)) (o : Settings) → vamana_of X o ≡ index_of X o
+-- the index that settings of a kind ask for, and its words
+pub index_is : (X : List (List ℕ)) (o : Settings) (k : Kind) → o.kind ≡ k → index_by k X o ≡ index_of X o
 unfolding index_of
-index_is X o = refl
+index_is X o k e = ap (λ (j : Kind). index_by j X o) (sym e)
+
+pub words_are : (n : ℕ) (o : Settings) (k : Kind) → o.kind ≡ k → words_by k n o ≡ words_of n o
+words_are n o k e = ap (λ (j : Kind). words_by j n o) (sym e)
+
+-- the layers of equal points, settings and levels
+pub same_layers : (X Y : List (List ℕ)) (s t : HnswSettings) (l m : List ℕ) → X ≡ Y → s ≡ t → l ≡ m → hnsw_index X s l ≡ hnsw_index Y t m
+same_layers X Y s t l m e f g = λ i. hnsw_index (e i) (f i) (g i)
+
+-- the layered builder's index is the one that a build must give
+pub layered_is : (X : List (List ℕ)) (o : Settings) → hnsw_index X (hnsw_settings o) (levels_for (length X) o) ≡ hnsw_of X o
+unfolding hnsw_of
+layered_is X o = refl
 
 -- an index that fits
 pub both_ok : {T : Type 0} (r : Result T Fault) (P : Type 0) (Q R : T → Type 0) → ((x : T) → P → Q x → R x) → OnOk r P → IfOk r Q → IfOk r R

@@ -6,6 +6,10 @@ use Rattle.ann_defs.specs.declared.kinds.Kind.{Kind}
 use Rattle.ann_defs.specs.declared.kinds.Kind.TheVariants.{Vamana, Hnsw, Nnd}
 use Rattle.graph_rows.specs.Index.{Contents, flat_contents, edges_of, text_of}
 use Rattle.seeded_order.specs.Order.{insertion_order}
+use Rattle.seeded_order.specs.Levels.{levels_of}
+use Rattle.hnsw_build.specs.Layering.{words_in}
+use Rattle.hnsw_build.specs.HnswIndex.{hnsw_index}
+use Rattle.hnsw_build.specs.declared.settings.HnswSettings.{HnswSettings}
 use Rattle.command_options.specs.declared.settings.Settings.{Settings}
 use Rattle.annbuild_lines.specs.declared.line.BuiltLine.{BuiltLine}
 use Rattle.annbuild_lines.specs.Lines.{built_text}
@@ -18,8 +22,21 @@ vamana_of X o =
     let b : Build = record { points = X; start = slice_index ids 0; beam = o.beam; num = o.num; den = o.den; degree = o.degree; passes = 1 } in
     flat_contents 1 (length X) (dim_of X) o.degree (slice_index ids 0) (graph_after b ids cap (total_of (length X) cap))
 
--- the index of each kind; the words ask for no other kind yet
+-- the levels of so many points in an HNSW index: the seed, bits and greatest level of the settings decide them
+abbrev pub levels_for : ℕ → Settings → List ℕ
+levels_for n o = levels_of n o.seed o.bits o.max_level
+
+-- what else decides an HNSW index
+abbrev pub hnsw_settings : Settings → HnswSettings
+hnsw_settings o = record { order = o.order; seed = o.seed; degree = o.degree; beam = o.beam; bits = o.bits; max_level = o.max_level; cap = o.cap }
+
+-- the HNSW index of a point set
+unfoldable pub hnsw_of : List (List ℕ) → Settings → Contents
+hnsw_of X o = hnsw_index X (hnsw_settings o) (levels_for (length X) o)
+
+-- the index of each kind; the words ask for no third kind yet
 abbrev pub index_by : Kind → List (List ℕ) → Settings → Contents
+index_by Hnsw X o = hnsw_of X o
 index_by kind X o = vamana_of X o
 
 -- the index that a build of a point set with these settings must give
@@ -30,8 +47,13 @@ index_of X o = index_by o.kind X o
 abbrev pub vamana_words : ℕ → Settings → ℕ
 vamana_words n o = n * (o.degree + 1)
 
+-- the words that the rows of so many points take in all layers of an HNSW index
+abbrev pub hnsw_words : ℕ → Settings → ℕ
+hnsw_words n o = words_in (levels_for n o) o.degree
+
 -- the words in an index of each kind
 abbrev pub words_by : Kind → ℕ → Settings → ℕ
+words_by Hnsw n o = hnsw_words n o
 words_by kind n o = vamana_words n o
 
 -- the words that the rows of the index of so many points take

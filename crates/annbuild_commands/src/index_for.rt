@@ -8,6 +8,7 @@ ghost use Rattle.annbuild_lines.specs.declared.fault.Fault.TheVariants.{NoMemory
 ghost use Rattle.annbuild_commands.specs.IndexOf.{index_of, words_of};
 ghost use Rattle.annbuild_commands.specs.Building.{words_refusal};
 
+use crate::hnsw::layered_index;
 use crate::vamana::vamana_index;
 use ann_defs::Kind;
 use ann_shelf::Gate;
@@ -34,7 +35,9 @@ pub(crate) fn index_for<R: Threads + Sync, G: Gate + Sync>(
     ensures failed { IfErr result (λ fault. (words_refusal (words_of (length points.now.vectors) options.now) ≡ Some fault) ⊎ (fault ≡ NoMemory)) }
 {
     match options.kind {
-        // The words ask for no search graph of lists yet.
-        Kind::Vamana | Kind::Hnsw | Kind::Nnd => vamana_index(rt, alloc, points, options, gate),
+        Kind::Hnsw => layered_index(rt, alloc, points, options, gate),
+        Kind::Vamana => vamana_index(rt, alloc, points, options, gate),
+        // The words ask for no such index yet.
+        Kind::Nnd => vamana_index(rt, alloc, points, options, gate),
     }
 }

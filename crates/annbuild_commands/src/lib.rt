@@ -8,6 +8,7 @@
 
 mod build;
 mod carried;
+mod hnsw;
 mod index_for;
 mod inputs;
 mod limits;
