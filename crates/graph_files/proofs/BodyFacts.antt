@@ -1,7 +1,7 @@
 -- What is known of an index whose layers were read.
 use Rattle.std.proofs.Common.{◌≡◌, ℕ, ◌+◌, ◌≤◌, true, nat_lt, List, ◌∷◌, length, refl, sym, ap, subst, ◌∙◌, arith, None}
 use Rattle.std.specs.List.{sum_by, range_with_len, enumerate_from}
-use Rattle.std.proofs.lemmas.Bool.{eqb-true}
+use Rattle.std.proofs.lemmas.Bool.Decides.{nat_tests}
 use Rattle.graph_files.specs.declared.header.Header.{Header}
 use Rattle.graph_files.specs.Header.{is_read, form_fault, limit_fault}
 use Rattle.graph_rows.specs.Index.{Contents}
@@ -14,7 +14,7 @@ use Rattle.graph_files.proofs.UpperLoop.{Entries}
 
 -- the kinds that are read are kinds
 kind_of_read : (kind : ℕ) → is_read kind ≡ true → (1 ≤ kind) × (kind ≤ 3)
-kind_of_read kind read = let is : kind ≡ 1 = eqb-true kind 1 read in (omega arith, omega arith)
+kind_of_read kind read = (grind (arith, nat_tests), grind (arith, nat_tests))
 
 module _ (h : Header) (kind : ℕ) (rows : List (List ℕ)) (upper : List Entries) (formed : form_fault h ≡ None) (limits : limit_fault h ≡ None) (is : kind ≡ h.kind) where
   abbrev index : ℕ → Contents

@@ -36,7 +36,7 @@ rows : Gets (edited four_points 48 0) (Malformed 48 DoubleEdge) × Gets (edited 
 unfolding verdict index_in body_at header_at layers_at layer_at rows_at row_at ids_at layer_ids_at
 rows = (refl, refl, refl, refl)
 
-header : Gets (81 ∷ drop 1 four_points) (Malformed 0 Magic) × Gets (edited four_points 4 9) (Malformed 4 Version) × Gets (edited four_points 8 4) (Malformed 8 Kind) × Gets (edited four_points 12 0) (Malformed 12 ZeroCount)
+header : Gets (81 ∷ drop 1 four_points) (Malformed 0 Magic) × Gets (edited four_points 4 9) (Malformed 4 Version) × Gets (edited four_points 8 3) (Malformed 8 Kind) × Gets (edited four_points 12 0) (Malformed 12 ZeroCount)
     × Gets (edited four_points 16 0) (Malformed 16 ZeroDim) × Gets (edited four_points 20 0) (Malformed 20 Degree) × Gets (edited four_points 24 4) (Malformed 24 Start) × Gets (edited four_points 28 2) (Malformed 28 Layers)
 unfolding verdict index_in body_at header_at layers_at layer_at rows_at row_at ids_at layer_ids_at
 header = (refl, refl, refl, refl, refl, refl, refl, refl)
@@ -54,6 +54,27 @@ cut_rows : AllByRecursion (λ cut. verdict (take cut four_points) ≡ Some (Malf
 unfolding verdict index_in body_at header_at layers_at layer_at rows_at row_at ids_at layer_ids_at
 cut_rows = search rules
 
+-- four points of the kind with layers: a row of layer 0 has twice the degree, and a further layer follows
+abbrev two_layers : List ℕ
+two_layers = edited (edited (edited (edited four_points 8 2) 20 1) 24 1) 28 2 ++ one_more
+
+layered : (verdict two_layers ≡ None) × Gets (two_layers ++ 0 ∷ []) (Malformed 80 Trailing) × Gets (edited two_layers 28 3) (Malformed 80 Short) × Gets (edited two_layers 28 1) (Malformed 68 Trailing)
+unfolding verdict index_in body_at header_at layers_at layer_at rows_at row_at ids_at layer_ids_at
+layered = (refl, refl, refl, refl)
+
+layered_header : Gets (edited two_layers 8 1) (Malformed 28 Layers) × Gets (edited two_layers 28 0) (Malformed 28 Layers) × Gets (edited two_layers 28 17) (Malformed 28 Layers) × Gets (edited two_layers 20 65) (TooLarge DegreeOf 65 64)
+unfolding verdict index_in body_at header_at layers_at layer_at rows_at row_at ids_at layer_ids_at
+layered_header = (refl, refl, refl, refl)
+
+layered_ids : Gets (edited two_layers 40 3) (Malformed 40 Degree) × Gets (edited two_layers 68 0) (Malformed 68 LayerIds) × Gets (edited two_layers 68 2) (Malformed 76 LayerIds) × Gets (edited two_layers 72 0) (Malformed 68 LayerIds)
+    × Gets (edited two_layers 72 4) (Malformed 72 LayerIds)
+unfolding verdict index_in body_at header_at layers_at layer_at rows_at row_at ids_at layer_ids_at
+layered_ids = (refl, refl, refl, refl, refl)
+
+cut_layers : AllByRecursion (λ cut. verdict (take cut two_layers) ≡ Some (Malformed cut Short)) (range_with_len 32 48)
+unfolding verdict index_in body_at header_at layers_at layer_at rows_at row_at ids_at layer_ids_at
+cut_layers = search rules
+
 -- a further layer over the ids below 4, whose start is 1
 further_layer : layer_at 1 1 (λ id. nat_lt id 4) 4 12 one_more 0 ≡ Ok (1 ∷ [], [] ∷ [], 12)
 unfolding layer_at rows_at row_at ids_at layer_ids_at
@@ -70,3 +91,8 @@ further_ids = (refl, refl)
 further_row : (layer_at 1 1 (λ id. nat_lt id 4) 4 12 (edited one_more 8 2) 0 ≡ Err (Malformed 8 Degree)) × (layer_at 1 1 (λ id. nat_lt id 4) 4 12 (edited one_more 8 1) 0 ≡ Err (Malformed 12 Short))
 unfolding layer_at rows_at row_at ids_at layer_ids_at
 further_row = (refl, refl)
+
+-- the words of the layers are summed up
+further_words : (layer_at 1 1 (λ id. nat_lt id 4) 4 134217726 one_more 0 ≡ Ok (1 ∷ [], [] ∷ [], 12)) × (layer_at 1 1 (λ id. nat_lt id 4) 4 134217727 one_more 0 ≡ Err (TooLarge Words 134217729 134217728))
+unfolding layer_at rows_at row_at ids_at layer_ids_at
+further_words = (refl, refl)

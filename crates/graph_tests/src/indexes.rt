@@ -8,13 +8,13 @@ use graph_files::{FlatGraph, Index, IndexFault, IndexRule, Kind, Layer, read_ind
 use std::alloc::Global;
 use std::test::*;
 
-const FOUR_POINTS: [u8; 68] = [
+pub(crate) const FOUR_POINTS: [u8; 68] = [
     80, 65, 78, 78, 1, 0, 0, 0, 1, 0, 0, 0, 4, 0, 0, 0, 1, 0, 0, 0, 2, 0, 0, 0, 0, 0, 0, 0, 1, 0,
     0, 0, 1, 0, 0, 0, 1, 0, 0, 0, 2, 0, 0, 0, 0, 0, 0, 0, 2, 0, 0, 0, 1, 0, 0, 0, 1, 0, 0, 0, 1, 0,
     0, 0, 1, 0, 0, 0,
 ];
 
-const TWO_LAYERS: [u8; 80] = [
+pub(crate) const TWO_LAYERS: [u8; 80] = [
     80, 65, 78, 78, 1, 0, 0, 0, 2, 0, 0, 0, 4, 0, 0, 0, 1, 0, 0, 0, 1, 0, 0, 0, 1, 0, 0, 0, 2, 0,
     0, 0, 1, 0, 0, 0, 1, 0, 0, 0, 2, 0, 0, 0, 0, 0, 0, 0, 2, 0, 0, 0, 1, 0, 0, 0, 1, 0, 0, 0, 1, 0,
     0, 0, 1, 0, 0, 0, 1, 0, 0, 0, 1, 0, 0, 0, 0, 0, 0, 0,
@@ -103,7 +103,7 @@ fn two_layers_are_written_in_80_bytes(rt: HostRuntime) -> Result<(), Fail> {
 }
 
 // Why a file of these bytes isn't read.
-fn fault_of(alloc: Global, bytes: &[u8]) -> Option<IndexFault> {
+pub(crate) fn fault_of(alloc: Global, bytes: &[u8]) -> Option<IndexFault> {
     let mut shelf = MemShelf::new(alloc);
     if shelf.put("index", bytes).is_err() {
         return Some(IndexFault::NoMemory);
@@ -155,7 +155,8 @@ fn a_broken_rule_is_named_with_its_place(rt: HostRuntime) {
     for (place, byte, rule) in [
         (0, 81, IndexRule::Magic),
         (4, 2, IndexRule::Version),
-        (8, 2, IndexRule::Kind),
+        (8, 0, IndexRule::Kind),
+        (8, 3, IndexRule::Kind),
         (12, 0, IndexRule::ZeroCount),
         (16, 0, IndexRule::ZeroDim),
         (20, 0, IndexRule::Degree),

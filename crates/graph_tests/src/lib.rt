@@ -5,3 +5,5 @@
 
 #[cfg(test)]
 mod indexes;
+#[cfg(test)]
+mod layers;

@@ -1,0 +1,144 @@
+//! Files of indexes with further layers.
+use crate::indexes::{FOUR_POINTS, TWO_LAYERS, fault_of};
+use ann_shelf::{MemShelf, Quantity};
+use graph_files::{IndexFault, IndexRule, Kind, read_index, write_index};
+use std::test::*;
+
+// Layer 1 holds 1 and 3, which are in each other's rows; layer 2 holds 1.
+const THREE_LAYERS: [u8; 108] = [
+    80, 65, 78, 78, 1, 0, 0, 0, 2, 0, 0, 0, 4, 0, 0, 0, 1, 0, 0, 0, 1, 0, 0, 0, 1, 0, 0, 0, 3, 0,
+    0, 0, 1, 0, 0, 0, 1, 0, 0, 0, 2, 0, 0, 0, 0, 0, 0, 0, 2, 0, 0, 0, 1, 0, 0, 0, 1, 0, 0, 0, 1, 0,
+    0, 0, 1, 0, 0, 0, 2, 0, 0, 0, 1, 0, 0, 0, 3, 0, 0, 0, 1, 0, 0, 0, 3, 0, 0, 0, 1, 0, 0, 0, 1, 0,
+    0, 0, 1, 0, 0, 0, 1, 0, 0, 0, 0, 0, 0, 0,
+];
+
+// A file with one byte changed, and the place and the rule of its first fault.
+type Broken = (usize, u8, u64, IndexRule);
+
+const TWO_BROKEN: [Broken; 15] = [
+    (8, 1, 28, IndexRule::Layers),
+    (8, 3, 8, IndexRule::Kind),
+    (20, 0, 20, IndexRule::Degree),
+    (28, 0, 28, IndexRule::Layers),
+    (28, 1, 68, IndexRule::Trailing),
+    (28, 3, 80, IndexRule::Short),
+    (28, 17, 28, IndexRule::Layers),
+    (40, 3, 40, IndexRule::Degree),
+    (68, 0, 68, IndexRule::LayerIds),
+    (68, 2, 76, IndexRule::LayerIds),
+    (68, 5, 68, IndexRule::LayerIds),
+    (72, 0, 68, IndexRule::LayerIds),
+    (72, 4, 72, IndexRule::LayerIds),
+    (76, 1, 80, IndexRule::Short),
+    (76, 2, 76, IndexRule::Degree),
+];
+
+const THREE_BROKEN: [Broken; 13] = [
+    (28, 2, 96, IndexRule::Trailing),
+    (72, 2, 68, IndexRule::LayerIds),
+    (72, 3, 76, IndexRule::LayerIds),
+    (76, 1, 76, IndexRule::LayerIds),
+    (80, 2, 80, IndexRule::Degree),
+    (84, 1, 84, IndexRule::SelfEdge),
+    (84, 2, 84, IndexRule::IdRange),
+    (96, 0, 96, IndexRule::LayerIds),
+    (96, 2, 104, IndexRule::LayerIds),
+    (96, 3, 96, IndexRule::LayerIds),
+    (100, 2, 100, IndexRule::LayerIds),
+    (100, 3, 96, IndexRule::LayerIds),
+    (104, 1, 108, IndexRule::Short),
+];
+
+#[test]
+fn a_layered_index_is_read_and_written_back(rt: HostRuntime) -> Result<(), Fail> {
+    let mut shelf = MemShelf::new(rt.alloc());
+    for (file, layers) in [(TWO_LAYERS.as_slice(), 1), (THREE_LAYERS.as_slice(), 2)] {
+        shelf.put("index", file)?;
+        let index = read_index(rt.alloc(), &mut shelf, "index")?;
+        assert_eq!(rt; index.kind, Kind::Hnsw);
+        assert_eq!(rt; index.upper.len(), layers);
+        assert!(rt; write_index(&mut shelf, "copy", &index).is_ok());
+        assert_eq!(rt; shelf.bytes("copy").ok_or("no file")?, file);
+    }
+    Ok(())
+}
+
+#[test]
+fn a_layered_file_may_have_one_layer(rt: HostRuntime) {
+    let mut bytes = FOUR_POINTS;
+    bytes[8] = 2;
+    bytes[20] = 1;
+    assert_eq!(rt; fault_of(rt.alloc(), &bytes), None);
+}
+
+#[test]
+fn each_cut_of_a_layered_file_is_refused_where_it_ends(rt: HostRuntime) {
+    for file in [TWO_LAYERS.as_slice(), THREE_LAYERS.as_slice()] {
+        for cut in 0..file.len() {
+            let rule = if cut < 32 {
+                IndexRule::ShortHeader
+            } else {
+                IndexRule::Short
+            };
+            assert_eq!(rt;
+                fault_of(rt.alloc(), &file[..cut]),
+                Some(IndexFault::Malformed {
+                    place: cut as u64,
+                    rule
+                }),
+                "cut at {cut}"
+            );
+        }
+    }
+}
+
+#[test]
+fn a_broken_rule_of_a_layer_is_named_with_its_place(rt: HostRuntime) {
+    for (at, byte, place, rule) in TWO_BROKEN {
+        let mut bytes = TWO_LAYERS;
+        if let Some(cell) = bytes.get_mut(at) {
+            *cell = byte;
+        }
+        assert_eq!(rt;
+            fault_of(rt.alloc(), &bytes),
+            Some(IndexFault::Malformed { place, rule }),
+            "{byte} at {at}"
+        );
+    }
+    for (at, byte, place, rule) in THREE_BROKEN {
+        let mut bytes = THREE_LAYERS;
+        if let Some(cell) = bytes.get_mut(at) {
+            *cell = byte;
+        }
+        assert_eq!(rt;
+            fault_of(rt.alloc(), &bytes),
+            Some(IndexFault::Malformed { place, rule }),
+            "{byte} at {at}"
+        );
+    }
+    let mut longer = [0u8; 81];
+    longer[..80].copy_from_slice(&TWO_LAYERS);
+    assert_eq!(rt;
+        fault_of(rt.alloc(), &longer),
+        Some(IndexFault::Malformed {
+            place: 80,
+            rule: IndexRule::Trailing
+        })
+    );
+}
+
+#[test]
+fn a_layered_index_has_at_most_degree_64(rt: HostRuntime) {
+    let mut bytes = TWO_LAYERS;
+    bytes[20] = 64;
+    assert_eq!(rt; fault_of(rt.alloc(), &bytes), None);
+    bytes[20] = 65;
+    assert_eq!(rt;
+        fault_of(rt.alloc(), &bytes),
+        Some(IndexFault::TooLarge {
+            name: Quantity::Degree,
+            value: 65,
+            limit: 64
+        })
+    );
+}
