@@ -71,12 +71,12 @@ has_option_of_any verb option = has_option verb Vamana option || has_option verb
 -- the commands and kinds that the program has today; others mean no request
 abbrev pub is_built : Verb → Kind → Bool
 is_built verbs.Build Vamana = true
+is_built verbs.Build Hnsw = true
 is_built verbs.Query kind = true
 is_built verb kind = false
 
 -- the same of options
 abbrev pub is_option_built : OptionName → Bool
-is_option_built options.Kind = false
 is_option_built options.Passes = false
 is_option_built options.Format = false
 is_option_built options.Type = false

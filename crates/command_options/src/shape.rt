@@ -176,7 +176,7 @@ pub fn is_built(verb: Verb, kind: Kind) -> bool
     ensures { result ≡ is_built verb kind }
 {
     match verb {
-        Verb::Build => matches!(kind, Kind::Vamana),
+        Verb::Build => matches!(kind, Kind::Vamana | Kind::Hnsw),
         Verb::Query => true,
         _ => false,
     }
@@ -187,7 +187,7 @@ pub fn is_option_built(option: OptionName) -> bool
     ensures { result ≡ is_option_built option }
 {
     match option {
-        OptionName::Kind | OptionName::Passes | OptionName::Format | OptionName::Type => false,
+        OptionName::Passes | OptionName::Format | OptionName::Type => false,
         _ => true,
     }
 }
