@@ -16,6 +16,11 @@ pub(crate) const FOUR_BY_ONE: &[u8] =
 pub(crate) const FOUR_WIDE: &[u8] =
     b"PANN\x01\0\0\0\x01\0\0\0\x04\0\0\0\x01\0\0\0\x40\0\0\0\0\0\0\0\x01\0\0\0\x01\0\0\0\x01\0\0\0\x02\0\0\0\0\0\0\0\x02\0\0\0\x02\0\0\0\x01\0\0\0\x03\0\0\0\x01\0\0\0\x02\0\0\0";
 
+/// An HNSW index of them with one layer, degree 1 and beam 4, in file order, with batches of at most 4: the rows of
+/// [`FOUR_BY_FOUR`].
+pub(crate) const FOUR_IN_ONE_LAYER: &[u8] =
+    b"PANN\x01\0\0\0\x02\0\0\0\x04\0\0\0\x01\0\0\0\x01\0\0\0\0\0\0\0\x01\0\0\0\x01\0\0\0\x01\0\0\0\x02\0\0\0\0\0\0\0\x02\0\0\0\x01\0\0\0\x01\0\0\0\x01\0\0\0\x01\0\0\0";
+
 /// The settings of [`FOUR_BY_FOUR`] and [`FOUR_BY_ONE`] but for the cap.
 pub(crate) const FOUR_LINE: &[u8] =
     b"built vamana count 4 dim 1 degree 2 start 0 layers 1 edges 5\n";

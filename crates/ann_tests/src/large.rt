@@ -1,6 +1,6 @@
 //! 2,000 made points and 5,000 made queries: the index takes more than one piece of a file, and the queries more than one
-//! round. The numbers come from two other programs, which agree byte for byte: one that follows the definitions step by
-//! step, and a builder of the same definitions in C++.
+//! round. Two other programs give the index, byte for byte alike: one that follows the definitions step by step, and a
+//! builder of the same definitions in C++. The first of them gives the answers.
 use crate::calls::{NONE, Outcome, call};
 use ann_shelf::{MemShelf, NoMemory};
 use bin_files::{Points, write_points};
@@ -24,7 +24,7 @@ const LINE: &[u8] = b"built vamana count 2000 dim 16 degree 32 start 201 layers 
 const CALLS: u64 = 40;
 
 /// The 64-bit FNV-1a sum of bytes.
-fn sum_of(bytes: &[u8]) -> u64 {
+pub(crate) fn sum_of(bytes: &[u8]) -> u64 {
     let mut sum = 0xcbf29ce484222325u64;
     for byte in bytes {
         sum = (sum ^ u64::from(*byte)).wrapping_mul(0x100000001b3);
@@ -33,7 +33,7 @@ fn sum_of(bytes: &[u8]) -> u64 {
 }
 
 /// The file of points.
-fn file_of(alloc: Global, points: &Points) -> Result<MemShelf, NoMemory> {
+pub(crate) fn file_of(alloc: Global, points: &Points) -> Result<MemShelf, NoMemory> {
     let mut shelf = MemShelf::new(alloc);
     match write_points(&mut shelf, "pts", points) {
         Ok(()) => Ok(shelf),
@@ -41,14 +41,18 @@ fn file_of(alloc: Global, points: &Points) -> Result<MemShelf, NoMemory> {
     }
 }
 
-/// A build of the points on this pool.
-fn built<R: Threads + Wait + Sync>(
+/// The settings of the Vamana index.
+const VAMANA: &str = "--degree 32 --beam 64 --seed 1";
+
+/// A build of the points with these settings, on this pool.
+pub(crate) fn built<R: Threads + Wait + Sync>(
     rt: &R,
     alloc: Global,
     points: &[u8],
+    settings: &str,
     pool: &str,
 ) -> Result<Outcome, NoMemory> {
-    let words = format!(in alloc; "build pts ann --degree 32 --beam 64 --seed 1 {pool}")?;
+    let words = format!(in alloc; "build pts ann {settings} {pool}")?;
     call(rt, alloc, words.as_str(), &[("pts", points)], NONE)
 }
 
@@ -76,7 +80,7 @@ fn each_pool_builds_the_same_index_of_2000_points(rt: HostRuntime) {
     let points = data.bytes("pts").unwrap_or(&[]);
     assert_eq!(rt; sum_of(points), POINTS);
     for pool in POOLS {
-        let ended = built(&rt, alloc, points, pool).expect(&rt, "memory");
+        let ended = built(&rt, alloc, points, VAMANA, pool).expect(&rt, "memory");
         assert_eq!(rt; ended.status.code, 0, "{pool}");
         assert!(rt; ended.out.bytes() == LINE, "{pool}");
         let index = ended.shelf.bytes("ann").unwrap_or(&[]);
@@ -96,7 +100,7 @@ fn each_pool_answers_5000_queries_alike(rt: HostRuntime) {
     let asked = file_of(alloc, &asked).expect(&rt, "memory");
     let queries = asked.bytes("pts").unwrap_or(&[]);
     assert_eq!(rt; sum_of(queries), QUERIES);
-    let ended = built(&rt, alloc, points, "--pool serial").expect(&rt, "memory");
+    let ended = built(&rt, alloc, points, VAMANA, "--pool serial").expect(&rt, "memory");
     let index = ended.shelf.bytes("ann").unwrap_or(&[]);
     for pool in POOLS {
         let words = format!(in alloc; "query pts ann ask --search 16 --k 3 {pool}").expect(

@@ -17,6 +17,8 @@ mod gates;
 #[cfg(test)]
 mod large;
 #[cfg(test)]
+mod layered;
+#[cfg(test)]
 mod memory;
 #[cfg(test)]
 mod query;

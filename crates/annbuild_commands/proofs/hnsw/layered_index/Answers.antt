@@ -22,5 +22,5 @@ returns-in-Ok-clause-index g c =
     let plan = c.in-Ok.plan in
     IfOk-weaker c.planned.result (λ i. contents i ≡ hnsw_index plan.points.now.vectors plan.settings plan.levels.items) (λ i. contents i ≡ hnsw_of X o)
     (λ i is. is
-        ∙ same_layers _ _ _ _ _ _ (vectors_of _ _ c.in-Ok.ensures.points) (c.in-Ok.ensures.settings ∙ c.settings_of.ensures) (c.in-Ok.ensures.levels ∙ levels_by X X _ _ refl c.settings_of.ensures)
-        ∙ layered_is X o) c.planned.ensures.index
+    ∙ same_layers _ _ _ _ _ _ (vectors_of _ _ c.in-Ok.ensures.points) (c.in-Ok.ensures.settings ∙ c.settings_of.ensures) (c.in-Ok.ensures.levels ∙ levels_by X X _ _ refl c.settings_of.ensures)
+    ∙ layered_is X o) c.planned.ensures.index
