@@ -1,5 +1,6 @@
-//! A build and a query, read by clap.
+//! Builds and a query, read by clap.
 
+use ann_defs::Kind;
 use annbuild_clap::{Parsed, parse_by_clap};
 use annbuild_words::{Asked, Verb, read_words};
 use std::alloc::Global;
@@ -32,6 +33,13 @@ fn odd_file_names_and_settings_are_read_by_clap(rt: HostRuntime) -> Result<(), F
     assert_eq!(rt; build.settings.cap, Some(7));
     assert_eq!(rt; (build.settings.num, build.settings.den), (5, 4));
     assert_eq!(rt; build.settings.degree, 64);
+    let words = ["build", "x", "--bits=2", "y", "--kind", "hnsw"];
+    let parsed = read_twice(rt.alloc(), &words)?;
+    let layered = parsed.request();
+    assert_eq!(rt; layered.settings.kind, Kind::Hnsw);
+    assert_eq!(rt; layered.names.second, "y");
+    assert_eq!(rt; (layered.settings.degree, layered.settings.bits), (16, 2));
+    assert_eq!(rt; layered.settings.max_level, 15);
     let words = ["query", "build", "query", "--k=3", "x"];
     let parsed = read_twice(rt.alloc(), &words)?;
     let query = parsed.request();

@@ -43,6 +43,14 @@ fn worked_words(rt: HostRuntime) -> Result<(), Fail> {
         ("build a b --degree +2", Want::Nothing),
         ("build a b --degree -2", Want::Nothing),
         ("build a b --search 4", Want::Nothing),
+        ("build a b --max-level 2", Want::Nothing),
+        ("build a b --kind hnsw --start medoid", Want::Nothing),
+        ("build a b --kind hnsw --alpha 12/10", Want::Nothing),
+        ("build a b --kind hnsw --list 40", Want::Nothing),
+        ("build a b --kind hnsw --kind hnsw", Want::Nothing),
+        ("build a b --kind HNSW", Want::Nothing),
+        ("build a b --kind 2", Want::Nothing),
+        ("query a b c --kind vamana", Want::Nothing),
         ("build a b --pool threads", Want::Nothing),
         ("grow a b", Want::Nothing),
         ("--degree 2 build a b", Want::Nothing),
@@ -74,6 +82,35 @@ fn worked_words(rt: HostRuntime) -> Result<(), Fail> {
         (
             "build a b --workers 65 --cap 0",
             Want::Outside(SettingName::Workers, 65, 1, 64),
+        ),
+        (
+            "build a b --kind vamana --degree 129",
+            Want::Outside(SettingName::Degree, 129, 1, 128),
+        ),
+        (
+            "build a b --kind hnsw --degree 65",
+            Want::Outside(SettingName::Degree, 65, 1, 64),
+        ),
+        (
+            "build a b --bits 9 --max-level 16 --kind hnsw",
+            Want::Outside(SettingName::Bits, 9, 1, 8),
+        ),
+        (
+            "build a b --kind=hnsw --bits 0",
+            Want::Outside(SettingName::Bits, 0, 1, 8),
+        ),
+        (
+            "build a b --kind hnsw --max-level 16",
+            Want::Outside(SettingName::MaxLevel, 16, 0, 15),
+        ),
+        ("build a b --kind vamana", Want::Accepted(Verb::Build)),
+        (
+            "build a b --kind hnsw --bits 4",
+            Want::Accepted(Verb::Build),
+        ),
+        (
+            "build --max-level=0 a --bits 8 b --degree 64 --order file --cap 1 --beam 1024 --kind=hnsw",
+            Want::Accepted(Verb::Build),
         ),
         ("build a b --alpha 1/1", Want::Accepted(Verb::Build)),
         ("build a b --alpha 1000/1", Want::Accepted(Verb::Build)),
@@ -123,8 +160,10 @@ fn worked_words(rt: HostRuntime) -> Result<(), Fail> {
 #[test]
 fn what_the_program_does_not_have_is_no_request(rt: HostRuntime) -> Result<(), Fail> {
     let rows = [
-        "build a b --kind vamana",
-        "build a b --kind hnsw",
+        "build a b --kind nnd",
+        "build a b --kind nnd --list 40",
+        "build a b --kind hnsw --format 1",
+        "build a b --kind hnsw --type u8",
         "build a b --passes 1",
         "build a b --format 1",
         "build a b --type u8",
@@ -195,6 +234,13 @@ fn settings_and_defaults(rt: HostRuntime) -> Result<(), Fail> {
     assert_eq!(rt; (all.search, all.k), (64, 10));
     assert_eq!(rt; (all.callers, all.label), (2, 0));
     assert_eq!(rt; all.element, Element::U8);
+    let layered = settings_in(rt.alloc(), "build a --kind hnsw b")?;
+    assert_eq!(rt; layered.kind, Kind::Hnsw);
+    assert_eq!(rt; (layered.degree, layered.beam), (16, 128));
+    assert_eq!(rt; (layered.bits, layered.max_level), (4, 15));
+    let set = settings_in(rt.alloc(), "build --bits 1 a --kind=hnsw b --max-level 0")?;
+    assert_eq!(rt; set.kind, Kind::Hnsw);
+    assert_eq!(rt; (set.degree, set.bits, set.max_level), (16, 1, 0));
     let words = words_in(rt.alloc(), "query --k 3 x --pool rayon y z")?;
     match read_words(words.as_slice()) {
         Asked::For(request) => {
