@@ -27,3 +27,13 @@ echo 'grid.ann comes out the same with 1, 2 and 7 workers.'
 echo '$ annbuild query grid.u8bin grid.ann grid.u8bin --k 3 | head -n 3'
 "$here/../run" query grid.u8bin grid.ann grid.u8bin --k 3 >lines || exit 1
 head -n 3 lines
+
+echo '$ annbuild build grid.u8bin layers.ann --kind hnsw --degree 8'
+"$here/../run" build grid.u8bin layers.ann --kind hnsw --degree 8 || exit 1
+"$here/../run" build grid.u8bin again.ann --kind hnsw --degree 8 --workers 7 --pool rayon >/dev/null || exit 1
+cmp layers.ann again.ann || exit 1
+echo 'layers.ann comes out the same with another pool and 7 workers.'
+
+echo '$ annbuild query grid.u8bin layers.ann grid.u8bin --k 3 | head -n 3'
+"$here/../run" query grid.u8bin layers.ann grid.u8bin --k 3 >lines || exit 1
+head -n 3 lines
