@@ -8,7 +8,7 @@ ghost use Rattle.hnsw_build.specs.Wanted.{block_of_point, point_blocks};
 use crate::layers::Layers;
 use crate::point_rows::write_rows;
 use beam_search::Scratch;
-use steal_pool::Work;
+use steal_pool::{LEAST_SEARCHES, Work};
 
 /// A task for each of at most 4,096 points: its new rows in all layers that it is in, before zeros for the layers above.
 #[derive(Drop)]
@@ -35,6 +35,10 @@ impl<'a> Work for NewRows<'a> {
     fn width(&self) -> u32 {
         let plan = self.layers.plan;
         (u32::from(plan.top()) + 1) * (plan.settings.degree + 1)
+    }
+
+    fn least(&self) -> u32 {
+        LEAST_SEARCHES
     }
 
     fn run(&self, scratch: &mut Scratch, task: u32, out: &mut [u32]) {
