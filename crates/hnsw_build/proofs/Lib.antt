@@ -12,3 +12,4 @@ pub mod Stepping
 pub mod NextBatch
 pub mod NewLayers
 pub mod IndexFacts
+mod Examples

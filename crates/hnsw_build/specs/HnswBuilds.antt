@@ -1,4 +1,5 @@
--- What a point set, settings and levels decide: the order, the entry point, the batches and the layers after each of them.
+-- What a point set, settings and levels decide: the order, the entry point, the batches and the layers after each of
+-- them.
 use Rattle.std.specs.Prelude.{ℕ, ◌+◌, List, [], map, length, slice_index_or}
 use Rattle.std.specs.List.{range_with_len}
 use Rattle.ann_defs.specs.BatchInsert.{cap_of, total_of}

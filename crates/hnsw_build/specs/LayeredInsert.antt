@@ -1,11 +1,11 @@
--- The insertion of a batch into the layers: Malkov and Yashunin, "Efficient and robust approximate nearest neighbor search
--- using Hierarchical Navigable Small World graphs", Algorithm 1 INSERT(hnsw, q, M, M_max, efConstruction, mL), with Algorithm 2
--- SEARCH-LAYER and Algorithm 4 SELECT-NEIGHBORS-HEURISTIC.
+-- The insertion of a batch into the layers: Malkov and Yashunin, "Efficient and robust approximate nearest neighbor
+-- search using Hierarchical Navigable Small World graphs", Algorithm 1 INSERT(hnsw, q, M, M_max, efConstruction, mL),
+-- with Algorithm 2 SEARCH-LAYER and Algorithm 4 SELECT-NEIGHBORS-HEURISTIC.
 -- Differences: points are inserted in batches of doubling size, each searched in the layers as they stood before its
--- batch; the heuristic is RobustPrune at 1/1, which drops a candidate that is as near to a kept one as to the point too;
--- a row of layer 0 has at most twice the degree, all others at most the degree; no candidates are added to those that were
--- found (extendCandidates), and none that was dropped is kept (keepPrunedConnections); a target's reverse edges are merged
--- as in `BatchInsert`; ties go by id.
+-- batch; the heuristic is RobustPrune at 1/1, which drops a candidate that is as near to a kept one as to the point
+-- too; a row of layer 0 has at most twice the degree, all others at most the degree; no candidates are added to those
+-- that were found (extendCandidates), and none that was dropped is kept (keepPrunedConnections); a target's reverse
+-- edges are merged as in `BatchInsert`; ties go by id.
 use Rattle.std.specs.Prelude.{ℕ, zero, suc, ◌+◌, ◌==◌, ◌&&◌, Bool, if◌then◌else◌, List, [], ◌∷◌, map, length, replicate, slice_index_or}
 use Rattle.std.specs.List.{range_with_len}
 use Rattle.ann_defs.specs.declared.near.Near.{Near}

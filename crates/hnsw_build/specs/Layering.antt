@@ -1,6 +1,8 @@
--- The levels of points and the layers that they make: Malkov and Yashunin, "Efficient and robust approximate nearest neighbor
--- search using Hierarchical Navigable Small World graphs", Algorithm 1 INSERT, where a point is in each layer up to its level.
--- Differences: the levels are given; the first point of greatest level is inserted first, so the entry point never changes.
+-- The levels of points and the layers that they make: Malkov and Yashunin, "Efficient and robust approximate nearest
+-- neighbor search using Hierarchical Navigable Small World graphs", Algorithm 1 INSERT, where a point is in each layer
+-- up to its level.
+-- Differences: the levels are given; the first point of greatest level is inserted first, so the entry point never
+-- changes.
 use Rattle.std.specs.Prelude.{ℕ, ◌+◌, Bool, ◌==◌, ◌&&◌, nat_le, nat_lt, max, List, length, slice_index}
 use Rattle.std.specs.List.{filter, fold, position_or_len, range_with_len, sum_by}
 use Rattle.graph_rows.specs.WellFormed.{layer_words}

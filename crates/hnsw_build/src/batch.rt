@@ -26,8 +26,8 @@ use steal_pool::{Post, Rounds};
 /// The rows that a batch changes, in each layer.
 #[derive(Drop)]
 pub(crate) struct BatchChange {
-    base: ChangedRows,
-    upper: Vec<ChangedRows>,
+    pub base: ChangedRows,
+    pub upper: Vec<ChangedRows>,
 }
 
 impl BatchChange {

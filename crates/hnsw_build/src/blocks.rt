@@ -14,8 +14,8 @@ use std::alloc::Global;
 use std::thread::Threads;
 use steal_pool::{Blocks, Post, Rounds};
 
-/// How many points have their new rows in one round.
-pub(crate) const ROUND: usize = 4096;
+// How many points have their new rows in one round.
+const MAX_TASKS: usize = 4096;
 
 /// The new rows of each point of a batch, in rounds of at most 4,096 points. The layers stay as they are.
 pub(crate) fn new_rows<'a, R: Threads + Sync, P: Rounds, G: Gate + Sync>(
@@ -38,7 +38,7 @@ pub(crate) fn new_rows<'a, R: Threads + Sync, P: Rounds, G: Gate + Sync>(
     let mut rows = Vec::with_capacity(alloc, batch.len())?;
     let mut from = 0;
     while from < batch.len() {
-        let to = (from + ROUND).min(batch.len());
+        let to = (from + MAX_TASKS).min(batch.len());
         let work = NewRows {
             layers,
             ids: &batch[from..to],

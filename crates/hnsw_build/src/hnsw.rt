@@ -52,8 +52,8 @@ impl<'p> Model for Hnsw<'p> {
 impl<'p> Hnsw<'p> {
     /// The build before its first batch: all rows of all layers are empty.
     ///
-    /// All memory of the layers and of the workers' searches is taken here: 4 bytes for each of the plan's words and for
-    /// each id of the layers above the first, and for each worker a scratch.
+    /// All memory of the layers and of the workers' searches is taken here: 4 bytes for each of the plan's words and
+    /// for each id of the layers above the first, and for each worker a scratch.
     pub fn new(alloc: Global, plan: &'p HnswPlan<'p>, workers: u32) -> Result<Hnsw<'p>, NoMemory>
         requires words { words_in plan.now.levels.items plan.now.settings.degree ≤ MAX_WORDS }
         requires workers { (1 ≤ workers) × (workers ≤ MAX_WORKERS) }
@@ -94,11 +94,11 @@ impl<'p> Hnsw<'p> {
 
     /// Inserts the next batch, and returns whether there was one: false exactly where all batches are in.
     ///
-    /// The pool has as many workers as the build was made for. The new rows of the batch are searched and pruned in the
-    /// layers before it, in rounds of at most 4,096 points with a task for each; then each layer's targets of reverse
-    /// edges get their merged rows, in a round for each layer; and last all layers change, without taking memory.
-    /// `gate.batch(v)` is called before, with the number of the batch. It fails with `NoMemory`, which leaves the layers
-    /// and the number of batches as they were: the step may be tried again.
+    /// The pool has as many workers as the build was made for. The new rows of the batch are searched and pruned in
+    /// the layers before it, in rounds of at most 4,096 points with a task for each; then each layer's targets of
+    /// reverse edges get their merged rows, in a round for each layer; and last all layers change, without taking
+    /// memory. `gate.batch(v)` is called before, with the number of the batch. It fails with `NoMemory`, which leaves
+    /// the layers and the number of batches as they were: the step may be tried again.
     pub fn step<R: Threads + Sync, P: Rounds, G: Gate + Sync>(
         &mut self,
         rt: &R,

@@ -1,8 +1,8 @@
 //! Builds an HNSW index in batches of doubling size, by any number of workers: the layers are the same for each.
 //!
 //! An `HnswPlan` holds what is decided before the first batch: the levels of the points, the order of insertion, which
-//! begins with a point of greatest level, and the cap of the batches. `Hnsw::step` inserts one batch (HNSW, Algorithm 1),
-//! and `Hnsw::into_index` gives the finished index, which `descend` of `layered_search` answers queries from.
+//! begins with a point of greatest level, and the cap of the batches. `Hnsw::step` inserts one batch (HNSW, Algorithm
+//! 1), and `Hnsw::into_index` gives the finished index, which `descend` of `layered_search` answers queries from.
 #![tactic(auto)]
 
 mod batch;

@@ -10,7 +10,8 @@ use crate::point_rows::write_rows;
 use beam_search::Scratch;
 use steal_pool::{LEAST_SEARCHES, Work};
 
-/// A task for each of at most 4,096 points: its new rows in all layers that it is in, before zeros for the layers above.
+/// A task for each of at most 4,096 points: its new rows in all layers that it is in, before zeros for the layers
+/// above.
 #[derive(Drop)]
 pub(crate) struct NewRows<'a> {
     pub layers: &'a Layers<'a>,

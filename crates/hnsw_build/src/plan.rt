@@ -7,7 +7,7 @@ ghost use Rattle.seeded_order.specs.Levels.{levels_of};
 ghost use Rattle.hnsw_build.specs.Layering.{words_in, top_of, entry_first};
 ghost use Rattle.hnsw_build.specs.HnswBuilds.{order_of, start_of, batch_cap};
 
-use crate::entry::{entry_point, top_level};
+use crate::entry::entry_point;
 use crate::members::members;
 use crate::settings::HnswSettings;
 use ann_defs::StartKind;
@@ -117,12 +117,12 @@ impl<'p> HnswPlan<'p> {
         self.order[0]
     }
 
-    /// The number of the top layer: the greatest level.
+    /// The number of the top layer: the greatest level, which is that of the entry point.
     pub fn top(&self) -> u8
         ensures value { result ≡ top_of self.now.levels.items }
         ensures bound { result ≤ 15 }
     {
-        top_level(self.levels.as_slice())
+        self.levels[self.order[0] as usize]
     }
 
     /// The words of the rows of all layers. Takes no memory.

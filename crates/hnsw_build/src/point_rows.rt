@@ -24,8 +24,8 @@ use robust_prune::prune;
 
 /// Writes the new rows of point `p` in the layers from 0 up to its level, each as a block.
 ///
-/// The layers above the level are walked down with beam 1, and the others with the beam of the settings: what is found in
-/// one are the entries into the one below, and its nearest, pruned, are the new row (HNSW, Algorithm 1).
+/// The layers above the level are walked down with beam 1, and the others with the beam of the settings: what is found
+/// in one are the entries into the one below, and its nearest, pruned, are the new row (HNSW, Algorithm 1).
 pub(crate) fn write_rows(layers: &Layers, p: u32, scratch: &mut Scratch, out: &mut [u32])
     requires p { p < length layers.now.plan.now.points.now.vectors }
     requires serves { ServesIn layers.now scratch.old }

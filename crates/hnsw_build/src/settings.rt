@@ -3,7 +3,8 @@ use ann_defs::OrderKind;
 
 /// What decides an HNSW index of a point set, beside the levels where these are given.
 ///
-/// In the words of HNSW, `degree` is `M` (and a row of layer 0 has at most `2 * M` ids), and `beam` is `efConstruction`.
+/// In the words of HNSW, `degree` is `M` (and a row of layer 0 has at most `2 * M` ids), and `beam` is
+/// `efConstruction`.
 #[derive(Clone, Copy)]
 pub struct HnswSettings {
     /// In which order points are inserted, but for the entry point, which comes first.

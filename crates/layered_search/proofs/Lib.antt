@@ -4,3 +4,4 @@ pub mod HeldRows
 pub mod Enterable
 pub mod Stepping
 pub mod Descending
+mod Examples

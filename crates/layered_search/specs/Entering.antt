@@ -17,7 +17,8 @@ abbrev pub upper_row : List Layered → ℕ → ℕ → List ℕ
 upper_row layers zero id = []
 upper_row layers (suc l) id = layer_row (layer_at layers l) id
 
--- layers of n points that can be walked down from the start: each is a graph, holds the start, and holds what is held above
+-- layers of n points that can be walked down from the start: each is a graph, holds the start, and holds what is held
+-- above
 pub record AreEnterable (n start : ℕ) (layers : List Layered) : Type 0 where
   pub start_below : start < n
   pub graphs : (k : ℕ) → k < length layers → IsGraph n (holds_at layers k) (layer_row (layer_at layers k))

@@ -1,6 +1,6 @@
--- HNSW's descent through the layers: Malkov and Yashunin, "Efficient and robust approximate nearest neighbor search using
--- Hierarchical Navigable Small World graphs", Algorithm 5 K-NN-SEARCH, which goes down as Algorithm 1 INSERT does.
--- Each layer is searched as in `GreedySearch` (Algorithm 2 SEARCH-LAYER).
+-- HNSW's descent through the layers: Malkov and Yashunin, "Efficient and robust approximate nearest neighbor search
+-- using Hierarchical Navigable Small World graphs", Algorithm 5 K-NN-SEARCH, which goes down as Algorithm 1 INSERT
+-- does. Each layer is searched as in `GreedySearch` (Algorithm 2 SEARCH-LAYER).
 -- Differences: layer 0 is searched with the query's own beam; the k nearest are cut off afterwards; ties go by id.
 use Rattle.std.specs.Prelude.{ℕ, zero, suc, if◌then◌else◌, nat_le, List, [], ◌∷◌}
 use Rattle.ann_defs.specs.declared.near.Near.{Near}

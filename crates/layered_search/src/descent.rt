@@ -14,12 +14,12 @@ use beam_search::{Scratch, search};
 use bin_files::Points;
 use graph_rows::Index;
 
-/// Searches an index of any kind for what is near to the query. The scratch has the answer: `found` of `beam_search` are
-/// the nearest that were found in layer 0, at most `beam`.
+/// Searches an index of any kind for what is near to the query. The scratch has the answer: `found` of `beam_search`
+/// are the nearest that were found in layer 0, at most `beam`.
 ///
 /// This is K-NN-SEARCH (HNSW, Algorithm 5): from the start down through the upper layers, each with beam 1, and then
-/// layer 0 with `beam` (`ef` in HNSW, `L` in DiskANN). An index with one layer is searched from its start, as GreedySearch
-/// of DiskANN (Algorithm 1) does. It takes no memory and refuses nothing.
+/// layer 0 with `beam` (`ef` in HNSW, `L` in DiskANN). An index with one layer is searched from its start, as
+/// GreedySearch of DiskANN (Algorithm 1) does. It takes no memory and refuses nothing.
 pub fn descend(points: &Points, index: &Index, query: &[u8], beam: u32, scratch: &mut Scratch)
     requires index { IsWellFormed (contents index.now) }
     requires count { index.now.count ≡ length points.now.vectors }
