@@ -3,7 +3,7 @@ ghost use Rattle.std.specs.Prelude.{◌≡◌, ◌≤◌, Some};
 
 use crate::line::line;
 use ann_shelf::{FreeGate, NoMemory};
-use graph_rows::{FlatGraph, Kind, Rows};
+use graph_rows::{FlatGraph, Index, Kind, Rows};
 use std::alloc::Global;
 use std::process::Abort;
 use std::test::Fail;
@@ -64,6 +64,27 @@ fn next_batch<R: Threads + Sync>(rt: &R, alloc: Global, build: &mut Vamana) -> R
     Ok(change.map_or(0, |c| c.batch()))
 }
 
+// The numbers of the next three batches, which are put in.
+fn next_three<R: Threads + Sync>(
+    rt: &R,
+    alloc: Global,
+    build: &mut Vamana,
+) -> Result<[u32; 3], NoMemory>
+    requires { build.old.workers ≡ 1 }
+    ensures { build.new.workers ≡ 1 }
+{
+    let first = next_batch(rt, alloc, build)?;
+    let second = next_batch(rt, alloc, build)?;
+    let third = next_batch(rt, alloc, build)?;
+    Ok([first, second, third])
+}
+
+// Whether this is what an index of the line says beside its rows.
+fn is_of_the_line(index: &Index) -> bool {
+    let sizes = (index.count, index.dim, index.degree, index.start);
+    index.kind == Kind::Vamana && sizes == (4, 1, 2, 0) && index.upper.is_empty()
+}
+
 #[test]
 fn three_batches_and_then_none(rt: HostRuntime) -> Result<(), Fail> {
     let alloc = rt.alloc();
@@ -72,11 +93,9 @@ fn three_batches_and_then_none(rt: HostRuntime) -> Result<(), Fail> {
     let plan = Plan::make(alloc, &points, small(4))?;
     let mut build = Vamana::new(alloc, &plan, 1)?;
     assert_crosses_threads(&plan, &build);
-    assert_eq!(rt; build.total(), 3);
-    assert_eq!(rt; next_batch(&rt, alloc, &mut build)?, 1);
-    assert_eq!(rt; next_batch(&rt, alloc, &mut build)?, 2);
-    assert_eq!(rt; next_batch(&rt, alloc, &mut build)?, 3);
-    assert_eq!(rt; next_batch(&rt, alloc, &mut build)?, 0);
+    assert!(rt; build.total() == 3);
+    assert!(rt; next_three(&rt, alloc, &mut build)? == [1, 2, 3]);
+    assert!(rt; next_batch(&rt, alloc, &mut build)? == 0);
     assert_rows(&rt, build.graph(), [&[1], &[0, 2], &[1], &[1]]);
     Ok(())
 }
@@ -88,18 +107,11 @@ fn batches_of_one_see_each_other(rt: HostRuntime) -> Result<(), Fail> {
     assert!(rt; points.count() == 4);
     let plan = Plan::make(alloc, &points, small(1))?;
     let mut build = Vamana::new(alloc, &plan, 1)?;
-    assert_eq!(rt; next_batch(&rt, alloc, &mut build)?, 1);
-    assert_eq!(rt; next_batch(&rt, alloc, &mut build)?, 2);
-    assert_eq!(rt; next_batch(&rt, alloc, &mut build)?, 3);
-    assert_eq!(rt; next_batch(&rt, alloc, &mut build)?, 4);
+    assert!(rt; next_three(&rt, alloc, &mut build)? == [1, 2, 3]);
+    assert!(rt; next_batch(&rt, alloc, &mut build)? == 4);
     assert!(rt; build.batch() == build.total());
     let index = build.into_index();
-    assert!(rt; index.kind == Kind::Vamana);
-    assert_eq!(rt;
-        (index.count, index.dim, index.degree, index.start),
-        (4, 1, 2, 0)
-    );
-    assert!(rt; index.upper.is_empty());
+    assert!(rt; is_of_the_line(&index));
     assert_rows(&rt, &index.base, [&[1], &[0, 2], &[1, 3], &[2]]);
     Ok(())
 }

@@ -44,10 +44,17 @@ fn a_megabyte_of_points_takes_few_calls(rt: HostRuntime) -> Result<(), Fail> {
     Ok(())
 }
 
+// An index file with a megabyte of rows, each of no ids.
+fn empty_rows(alloc: Global) -> Result<Vec<u8>, NoMemory> {
+    let mut text = HEADER.to_vec(alloc)?;
+    let rows = vec![in alloc; 0u8; 1_048_576]?;
+    text.extend_from_slice(rows.as_slice())?;
+    Ok(text)
+}
+
 #[test]
 fn a_megabyte_of_rows_takes_few_calls(rt: HostRuntime) -> Result<(), Fail> {
-    let mut text = vec![in rt.alloc(); 0u8; 32 + 1_048_576]?;
-    text[..32].copy_from_slice(&HEADER);
+    let text = empty_rows(rt.alloc())?;
     let mut shelf = MemShelf::new(rt.alloc());
     shelf.put("a", &text)?;
     let index = read_index(rt.alloc(), &mut shelf, "a")?;

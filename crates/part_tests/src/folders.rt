@@ -49,6 +49,33 @@ fn reads_two<F: Shelf>(
     Ok(got == 2 && into[0] == first && into[1] == next)
 }
 
+// Whether one shelf and then another read these two bytes of `a` from a place on.
+fn read_each<F: Shelf>(
+    reader: &mut F,
+    writer: &mut F,
+    at: u64,
+    read: [u8; 2],
+    written: [u8; 2],
+) -> Result<bool, Slip> {
+    let old = reads_two(reader, "a", at, read[0], read[1])?;
+    let new = reads_two(writer, "a", at, written[0], written[1])?;
+    Ok(old && new)
+}
+
+// Writes `a` by one shelf while another begins it before and appends to it and finishes it after.
+fn write_across<F: Shelf>(first: &mut F, second: &mut F) -> Result<(), Slip> {
+    first.begin("a")?;
+    write_two(second, "a", b"sec", b"ond")?;
+    append_all(first, "a", b"first")?;
+    first.finish("a")
+}
+
+// Writes a file of this piece twice.
+fn write_twice<F: Shelf>(shelf: &mut F, name: &str, piece: &[u8]) -> Result<(), Slip> {
+    write_two(shelf, name, piece, piece)?;
+    shelf.finish(name)
+}
+
 // A piece of 200,000 bytes, each its place modulo 251.
 fn long_piece(alloc: Global) -> Result<Vec<u8>, Fail> {
     let mut piece = Vec::new(alloc);
@@ -63,8 +90,7 @@ fn pieces_are_appended_and_read_far_inside(rt: HostRuntime) -> Result<(), Fail> 
     fresh_folder(&rt, "pieces.tmp")?;
     let mut shelf = DirShelf::new(&rt, rt.alloc(), "pieces.tmp");
     let piece = long_piece(rt.alloc())?;
-    write_two(&mut shelf, "a", &piece, &piece)?;
-    shelf.finish("a")?;
+    write_twice(&mut shelf, "a", &piece)?;
     assert!(rt; reads_two(&mut shelf, "a", 199_999, 203, 0)?);
     assert!(rt; reads_two(&mut shelf, "a", 262_143, 146, 147)?);
     assert!(rt; !reads_two(&mut shelf, "a", 400_000, 0, 0)?, "past the end");
@@ -78,8 +104,7 @@ fn a_file_that_is_replaced_is_read_on_as_it_was(rt: HostRuntime) -> Result<(), F
     fs::write(&rt, "replaced.tmp/a", "old!")?;
     let mut reader = DirShelf::new(&rt, rt.alloc(), "replaced.tmp");
     let mut writer = DirShelf::new(&rt, rt.alloc(), "replaced.tmp");
-    assert!(rt; reads_two(&mut reader, "a", 0, b'o', b'l')?);
-    assert!(rt; reads_two(&mut writer, "a", 0, b'o', b'l')?);
+    assert!(rt; read_each(&mut reader, &mut writer, 0, *b"ol", *b"ol")?);
     write_two(&mut writer, "a", b"new", b"?")?;
     assert!(rt;
         is_text(&rt, "replaced.tmp/a", "old!")?,
@@ -87,8 +112,7 @@ fn a_file_that_is_replaced_is_read_on_as_it_was(rt: HostRuntime) -> Result<(), F
     );
     writer.finish("a")?;
     assert!(rt; is_text(&rt, "replaced.tmp/a", "new?")?);
-    assert!(rt; reads_two(&mut reader, "a", 2, b'd', b'!')?);
-    assert!(rt; reads_two(&mut writer, "a", 2, b'w', b'?')?);
+    assert!(rt; read_each(&mut reader, &mut writer, 2, *b"d!", *b"w?")?);
     fs::remove_dir_all(&rt, "replaced.tmp")?;
     Ok(())
 }
@@ -98,10 +122,7 @@ fn two_writers_of_one_name_leave_one_of_the_two(rt: HostRuntime) -> Result<(), F
     fresh_folder(&rt, "two.tmp")?;
     let mut first = DirShelf::new(&rt, rt.alloc(), "two.tmp");
     let mut second = DirShelf::new(&rt, rt.alloc(), "two.tmp");
-    first.begin("a")?;
-    write_two(&mut second, "a", b"sec", b"ond")?;
-    append_all(&mut first, "a", b"first")?;
-    first.finish("a")?;
+    write_across(&mut first, &mut second)?;
     assert!(rt; is_text(&rt, "two.tmp/a", "first")?);
     second.finish("a")?;
     assert!(rt; is_text(&rt, "two.tmp/a", "second")?);

@@ -27,14 +27,14 @@ fn pairs_are_grouped_by_target_each_once(rt: HostRuntime) -> Result<(), Fail> {
     proposals.add(1, 3);
     proposals.group();
     assert!(rt; proposals.targets() == 2);
-    assert_eq!(rt; (proposals.target(0), proposals.target(1)), (0, 1));
-    assert_eq!(rt; proposals.sources(0), [pair(0, 2)].as_slice());
-    assert_eq!(rt; proposals.sources(1), [pair(1, 2), pair(1, 3)].as_slice());
-    assert_eq!(rt; (proposals.place(1), proposals.place(2)), (Some(1), None));
+    assert!(rt; (proposals.target(0), proposals.target(1)) == (0, 1));
+    assert!(rt; proposals.sources(0) == [pair(0, 2)].as_slice());
+    assert!(rt; proposals.sources(1) == [pair(1, 2), pair(1, 3)].as_slice());
+    assert!(rt; (proposals.place(1), proposals.place(2)) == (Some(1), None));
     proposals.clear();
     proposals.add(3, 0);
     proposals.group();
-    assert_eq!(rt; proposals.targets(), 1);
+    assert!(rt; proposals.targets() == 1);
     Ok(())
 }
 
@@ -77,9 +77,9 @@ fn sources_are_added_where_there_is_room_and_else_pruned(rt: HostRuntime) -> Res
     let points = line(rt.alloc())?;
     let mut out = [9u32; 3];
     let len = merge_at_one(&points, 3, &mut out);
-    assert_eq!(rt; &out[..len], [0, 2, 3].as_slice());
+    assert!(rt; &out[..len] == [0, 2, 3].as_slice());
     let len = merge_at_one(&points, 2, &mut out);
-    assert_eq!(rt; &out[..len], [0, 2].as_slice());
+    assert!(rt; &out[..len] == [0, 2].as_slice());
     Ok(())
 }
 
@@ -179,6 +179,20 @@ fn change_of_three<R: Threads + Sync>(
     )
 }
 
+// Whether four rows change, of which the first and the last are these.
+fn are_four(changed: &ChangedRows, first: &[u32], last: &[u32]) -> bool {
+    if changed.len() != 4 {
+        return false;
+    }
+    let ids = [changed.id(0), changed.id(1), changed.id(2), changed.id(3)];
+    ids == [0, 1, 2, 4] && changed.row(0) == first && changed.row(3) == last
+}
+
+// Whether a layer holds an id with this row.
+fn has_row(layer: &Layer, id: u32, row: &[u32]) -> bool {
+    layer.holds(id) && layer.row(id) == row
+}
+
 #[test]
 fn a_layer_changes_where_new_rows_or_their_targets_differ(rt: HostRuntime) -> Result<(), Fail> {
     let points = line(rt.alloc())?;
@@ -187,14 +201,9 @@ fn a_layer_changes_where_new_rows_or_their_targets_differ(rt: HostRuntime) -> Re
     let room = vec![in rt.alloc(); Near { dist: 0, id: 0 }; 7]?;
     let mut post = [Post::new(room)];
     let changed = change_of_three(&rt, rt.alloc(), &points, &layer, &fresh, &mut post)?;
-    assert!(rt; changed.len() == 4);
-    let ids = [changed.id(0), changed.id(1), changed.id(2), changed.id(3)];
-    assert_eq!(rt; ids, [0, 1, 2, 4]);
-    assert_eq!(rt; changed.row(0), [1, 2].as_slice());
-    assert_eq!(rt; changed.row(3), [0].as_slice());
+    assert!(rt; are_four(&changed, &[1, 2], &[0]));
     changed.put_into_layer(&mut layer);
-    assert!(rt; layer.holds(0) && layer.holds(2));
-    assert_eq!(rt; layer.row(0), [1, 2].as_slice());
-    assert_eq!(rt; layer.row(2), [0].as_slice());
+    assert!(rt; has_row(&layer, 0, &[1, 2]));
+    assert!(rt; has_row(&layer, 2, &[0]));
     Ok(())
 }

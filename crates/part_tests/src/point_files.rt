@@ -1,25 +1,41 @@
 //! Points and their files.
 use ann_defs::Element;
-use ann_shelf::{MemShelf, Quantity, Slip, SoundShelf};
+use ann_shelf::{MemShelf, NoMemory, Quantity, Slip, SoundShelf};
 use bin_files::{Points, PointsFault, PointsRule, read_points, read_points_as, write_points};
+use std::alloc::Global;
 use std::test::Fail;
 
 // The points 0, 10, 20 and 30.
 const FOUR: [u8; 12] = [4, 0, 0, 0, 1, 0, 0, 0, 0, 10, 20, 30];
+
+// Whether a point has these bytes.
+fn has_point(points: &Points, id: u32, bytes: &[u8]) -> bool {
+    id < points.count() && points.at(id) == bytes
+}
+
+// The points -20, -10, 0 and a last one, which is 128 less than this byte.
+fn signed(alloc: Global, last: u8) -> Result<Points, NoMemory> {
+    let bytes = [108, 118, 128, last].to_vec(alloc)?;
+    Ok(Points::of(Element::I8, 1, bytes))
+}
 
 #[test]
 fn four_points_are_read_and_written_back(rt: HostRuntime) -> Result<(), Fail> {
     let mut shelf = SoundShelf::new(rt.alloc());
     shelf.put("four", &FOUR)?;
     let points = read_points(rt.alloc(), &mut shelf, "four")?;
-    assert_eq!(rt; points.count(), 4);
-    assert_eq!(rt; points.dim(), 1);
-    assert_eq!(rt; points.at(2), [20].as_slice());
+    assert!(rt; points.count() == 4 && points.dim() == 1);
+    assert!(rt; has_point(&points, 2, &[20]));
     write_points(&mut shelf, "again", &points)?;
-    assert_eq!(rt; shelf.bytes("again"), Some(FOUR.as_slice()));
+    assert!(rt; shelf.bytes("again") == Some(FOUR.as_slice()));
+    Ok(())
+}
+
+#[test]
+fn points_are_made_of_bytes(rt: HostRuntime) -> Result<(), Fail> {
     let made = Points::from_bytes(2, [0, 10, 20, 30].to_vec(rt.alloc())?);
-    assert_eq!(rt; made.count(), 2);
-    assert_eq!(rt; made.at(1), [20, 30].as_slice());
+    assert!(rt; made.count() == 2);
+    assert!(rt; has_point(&made, 1, &[20, 30]));
     Ok(())
 }
 
@@ -30,24 +46,20 @@ fn signed_points_are_read_and_written_back(rt: HostRuntime) -> Result<(), Fail> 
     let mut shelf = SoundShelf::new(rt.alloc());
     shelf.put("signed", &file)?;
     let points = read_points_as(rt.alloc(), &mut shelf, "signed", Element::I8)?;
-    assert_eq!(rt; points.element(), Element::I8);
-    assert_eq!(rt; points.count(), 4);
-    assert_eq!(rt; points.at(0), [108].as_slice());
-    assert_eq!(rt; points.at(3), [138].as_slice());
+    assert!(rt; points.is_same(&signed(rt.alloc(), 138)?));
     write_points(&mut shelf, "again", &points)?;
-    assert_eq!(rt; shelf.bytes("again"), Some(file.as_slice()));
+    assert!(rt; shelf.bytes("again") == Some(file.as_slice()));
     Ok(())
 }
 
 #[test]
 fn points_are_the_same_by_element_and_numbers(rt: HostRuntime) -> Result<(), Fail> {
-    let points = Points::of(Element::I8, 1, [108, 118, 128, 138].to_vec(rt.alloc())?);
-    let made = Points::of(Element::I8, 1, [108, 118, 128, 138].to_vec(rt.alloc())?);
-    assert_eq!(rt; points.is_same(&made), true);
+    let points = signed(rt.alloc(), 138)?;
+    assert!(rt; points.element() == Element::I8);
+    assert!(rt; points.is_same(&signed(rt.alloc(), 138)?));
+    assert!(rt; !points.is_same(&signed(rt.alloc(), 139)?));
     let unsigned = Points::from_bytes(1, [108, 118, 128, 138].to_vec(rt.alloc())?);
-    assert_eq!(rt; points.is_same(&unsigned), false);
-    let other = Points::of(Element::I8, 1, [108, 118, 128, 139].to_vec(rt.alloc())?);
-    assert_eq!(rt; points.is_same(&other), false);
+    assert!(rt; !points.is_same(&unsigned));
     Ok(())
 }
 
@@ -90,38 +102,34 @@ fn a_file_is_judged_by_its_first_broken_rule(rt: HostRuntime) -> Result<(), Fail
     for (bytes, fault) in table {
         let mut shelf = MemShelf::new(rt.alloc());
         shelf.put("points", bytes)?;
-        assert_eq!(rt;
-            read_points(rt.alloc(), &mut shelf, "points").err(),
-            Some(fault)
-        );
+        assert!(rt; read_points(rt.alloc(), &mut shelf, "points").err() == Some(fault));
+    }
+    Ok(())
+}
+
+// Whether a write of points with one failing call is told and leaves the file as it was.
+fn leaves_the_old_file(alloc: Global, call: u64) -> Result<bool, NoMemory> {
+    let points = signed(alloc, 138)?;
+    let mut shelf = MemShelf::new(alloc);
+    shelf.put("a", &[7])?;
+    shelf.fail_call(call)?;
+    let told = write_points(&mut shelf, "a", &points) == Err(Slip::Failed);
+    Ok(told && shelf.bytes("a") == Some([7].as_slice()))
+}
+
+#[test]
+fn a_failed_call_of_a_write_is_told(rt: HostRuntime) -> Result<(), Fail> {
+    for call in 1..5u64 {
+        assert!(rt; leaves_the_old_file(rt.alloc(), call)?);
     }
     Ok(())
 }
 
 #[test]
-fn a_failed_call_is_told(rt: HostRuntime) -> Result<(), Fail> {
+fn a_failed_call_of_a_read_is_told(rt: HostRuntime) -> Result<(), Fail> {
     let mut shelf = MemShelf::new(rt.alloc());
     shelf.put("four", &FOUR)?;
-    let points = read_points(rt.alloc(), &mut shelf, "four")?;
-    let reads = shelf.calls();
-    shelf.fail_call(reads.saturating_add(1))?;
-    shelf.fail_call(reads.saturating_add(4))?;
-    assert_eq!(rt;
-        read_points(rt.alloc(), &mut shelf, "four").err(),
-        Some(PointsFault::Read)
-    );
-    assert_eq!(rt;
-        write_points(&mut shelf, "again", &points),
-        Err(Slip::Failed)
-    );
-    assert_eq!(rt; shelf.bytes("again"), None);
-    shelf.put("again", &[7])?;
-    let finish = shelf.calls().saturating_add(4);
-    shelf.fail_call(finish)?;
-    assert_eq!(rt;
-        write_points(&mut shelf, "again", &points),
-        Err(Slip::Failed)
-    );
-    assert_eq!(rt; shelf.bytes("again"), Some([7].as_slice()));
+    shelf.fail_call(1)?;
+    assert!(rt; read_points(rt.alloc(), &mut shelf, "four").err() == Some(PointsFault::Read));
     Ok(())
 }

@@ -15,11 +15,16 @@ fn three_points(alloc: Global) -> Result<Points, NoMemory>
     Ok(Points::from_bytes(1, bytes))
 }
 
-// The row of the first point among the others, the farther one first.
-fn prune_both(points: &Points, alpha: Alpha, degree: u32, out: &mut [u32; 3]) -> usize
+// The row of the first point among the others, the farther one first, at a factor of so many hundredths.
+fn prune_both(points: &Points, hundredths: u32, degree: u32, out: &mut [u32; 3]) -> usize
     requires points { points.now.vectors ≡ (0 ∷ []) ∷ (10 ∷ []) ∷ (20 ∷ []) ∷ [] }
+    requires hundredths { (100 ≤ hundredths) × (hundredths ≤ 1000) }
     requires degree { degree ≤ 3 }
 {
+    let alpha = Alpha {
+        num: hundredths,
+        den: 100,
+    };
     let mut cands = [Near { dist: 400, id: 2 }, Near { dist: 100, id: 1 }];
     prune(points, 0, &mut cands, alpha, degree, out)
 }
@@ -32,29 +37,26 @@ fn prune_none(points: &Points, out: &mut [u32; 3]) -> usize
 }
 
 // Its row at most `degree` long, and what stands where the row is written.
-fn row_at(alloc: Global, alpha: Alpha, degree: u32) -> Result<(usize, [u32; 3]), NoMemory>
-    requires { degree ≤ 3 }
+fn row_at(alloc: Global, hundredths: u32, degree: u32) -> Result<(usize, [u32; 3]), NoMemory>
+    requires hundredths { (100 ≤ hundredths) × (hundredths ≤ 1000) }
+    requires degree { degree ≤ 3 }
 {
     let points = three_points(alloc)?;
     let mut out = [7, 7, 7];
-    let len = prune_both(&points, alpha, degree, &mut out);
+    let len = prune_both(&points, hundredths, degree, &mut out);
     Ok((len, out))
 }
 
 #[test]
 fn a_tie_removes_the_farther_candidate(rt: HostRuntime) -> Result<(), Fail> {
-    assert_eq!(rt;
-        row_at(rt.alloc(), Alpha { num: 4, den: 1 }, 2)?,
-        (1, [1, 7, 7])
-    );
+    assert!(rt; row_at(rt.alloc(), 400, 2)? == (1, [1, 7, 7]));
     Ok(())
 }
 
 #[test]
 fn a_factor_just_above_the_tie_keeps_both_nearest_first(rt: HostRuntime) -> Result<(), Fail> {
-    let above = Alpha { num: 401, den: 100 };
-    assert_eq!(rt; row_at(rt.alloc(), above, 2)?, (2, [1, 2, 7]));
-    assert_eq!(rt; row_at(rt.alloc(), above, 1)?, (1, [1, 7, 7]));
+    assert!(rt; row_at(rt.alloc(), 401, 2)? == (2, [1, 2, 7]));
+    assert!(rt; row_at(rt.alloc(), 401, 1)? == (1, [1, 7, 7]));
     Ok(())
 }
 
@@ -62,7 +64,7 @@ fn a_factor_just_above_the_tie_keeps_both_nearest_first(rt: HostRuntime) -> Resu
 fn no_candidates_give_no_row(rt: HostRuntime) -> Result<(), Fail> {
     let points = three_points(rt.alloc())?;
     let mut out = [7, 7, 7];
-    assert_eq!(rt; prune_none(&points, &mut out), 0);
-    assert_eq!(rt; out, [7, 7, 7]);
+    assert!(rt; prune_none(&points, &mut out) == 0);
+    assert!(rt; out == [7, 7, 7]);
     Ok(())
 }

@@ -1,5 +1,5 @@
 //! Searches of a line of four points, beside a plain body that does each step of the definition.
-ghost use Rattle.std.specs.Prelude.{◌≡◌, ◌≤◌, length};
+ghost use Rattle.std.specs.Prelude.{◌≡◌, ◌<◌, ◌≤◌, length};
 ghost use Rattle.ann_defs.specs.Distance.{dim_of};
 ghost use Rattle.ann_defs.specs.Graph.{AreGoodRows};
 ghost use Rattle.beam_search.specs.Serving.{Serves};
@@ -17,8 +17,8 @@ use std::test::Fail;
 #[test]
 fn a_new_scratch_has_nothing_found(rt: HostRuntime) -> Result<(), Fail> {
     let scratch = Scratch::new(rt.alloc(), 4, 4)?;
-    assert_eq!(rt; found(&scratch).len(), 0);
-    assert_eq!(rt; visited(&scratch).len(), 0);
+    assert!(rt; found(&scratch).len() == 0);
+    assert!(rt; visited(&scratch).len() == 0);
     Ok(())
 }
 
@@ -58,16 +58,16 @@ fn searched(alloc: Global, first: u8, query: u8, beam: u32) -> Result<Scratch, N
 fn the_nearest_are_found_along_the_line(rt: HostRuntime) -> Result<(), Fail> {
     let scratch = searched(rt.alloc(), 3, 12, 4)?;
     let all = [near(4, 1), near(64, 2), near(144, 0)];
-    assert_eq!(rt; found(&scratch), all.as_slice());
+    assert!(rt; found(&scratch) == all.as_slice());
     let walk = [near(144, 0), near(4, 1), near(64, 2)];
-    assert_eq!(rt; visited(&scratch), walk.as_slice());
+    assert!(rt; visited(&scratch) == walk.as_slice());
     Ok(())
 }
 
 #[test]
 fn a_beam_of_one_finds_one(rt: HostRuntime) -> Result<(), Fail> {
     let scratch = searched(rt.alloc(), 3, 12, 1)?;
-    assert_eq!(rt; found(&scratch), [near(4, 1)].as_slice());
+    assert!(rt; found(&scratch) == [near(4, 1)].as_slice());
     Ok(())
 }
 
@@ -139,19 +139,36 @@ fn a_search_is_as_the_plain_one(rt: HostRuntime) -> Result<(), Fail> {
     Ok(())
 }
 
-// The candidates of point 1 with some ids, and what the scratch says of the search after they were written over.
+// The candidates of a point of the line with some ids, after a search for it. Then they are written over.
+fn candidates_at(
+    alloc: Global,
+    points: &Points,
+    graph: &FlatGraph,
+    p: u32,
+    scratch: &mut Scratch,
+) -> Result<Vec<Near>, NoMemory>
+    requires p { p < length points.now.vectors }
+    requires four { length points.now.vectors ≡ 4 }
+    requires good { AreGoodRows (length points.now.vectors) 2 graph.now.rows }
+    requires serves { Serves (length points.now.vectors) 4 scratch.old }
+{
+    search(points, graph, &[0], points.at(p), 4, scratch);
+    let nears = candidates(scratch, points, p, &[3, 1, 0]);
+    nears.sort_unstable();
+    let list = nears.to_vec(alloc)?;
+    room(scratch)[0] = near(7, 7);
+    Ok(list)
+}
+
+// Those of point 1, and what the scratch says of the search after they were written over.
 fn candidates_of_one(alloc: Global) -> Result<(Vec<Near>, Vec<Near>), NoMemory> {
     let points = line(alloc)?;
     let graph = line_graph(alloc)?;
     let mut scratch = Scratch::new(alloc, 4, 4)?;
-    let mut list = Vec::new(alloc);
-    if points.count() == 4 && points.dim() == 1 {
-        search(&points, &graph, &[0], points.at(1), 4, &mut scratch);
-        let nears = candidates(&mut scratch, &points, 1, &[3, 1, 0]);
-        nears.sort_unstable();
-        list = nears.to_vec(alloc)?;
-        room(&mut scratch)[0] = near(7, 7);
+    if points.count() != 4 {
+        return Ok((Vec::new(alloc), Vec::new(alloc)));
     }
+    let list = candidates_at(alloc, &points, &graph, 1, &mut scratch)?;
     Ok((list, visited(&scratch).to_vec(alloc)?))
 }
 
@@ -159,9 +176,9 @@ fn candidates_of_one(alloc: Global) -> Result<(Vec<Near>, Vec<Near>), NoMemory> 
 fn candidates_are_the_visited_and_the_row(rt: HostRuntime) -> Result<(), Fail> {
     let (list, walk) = candidates_of_one(rt.alloc())?;
     let all = [near(100, 0), near(100, 2), near(400, 3)];
-    assert_eq!(rt; list.as_slice(), all.as_slice());
+    assert!(rt; list.as_slice() == all.as_slice());
     let line = [near(100, 0), near(0, 1), near(100, 2)];
-    assert_eq!(rt; walk.as_slice(), line.as_slice());
+    assert!(rt; walk.as_slice() == line.as_slice());
     Ok(())
 }
 

@@ -1,47 +1,85 @@
 //! Files and an output in memory.
-use ann_shelf::{MemOut, MemShelf, Out, Shelf, Slip, SoundShelf, append_all, write_all};
+use ann_shelf::{MemOut, MemShelf, NoMemory, Out, Shelf, Slip, SoundShelf, append_all, write_all};
+use std::alloc::Global;
 use std::test::Fail;
+
+// A shelf with one file.
+fn one_file(alloc: Global, name: &str, bytes: &[u8]) -> Result<MemShelf, NoMemory> {
+    let mut shelf = MemShelf::new(alloc);
+    shelf.put(name, bytes)?;
+    Ok(shelf)
+}
+
+// Whether a file has these bytes.
+fn has(shelf: &MemShelf, name: &str, bytes: &[u8]) -> bool {
+    shelf.bytes(name) == Some(bytes)
+}
+
+// Whether a file of a shelf that never fails has these bytes.
+fn sound_has(shelf: &SoundShelf, name: &str, bytes: &[u8]) -> bool {
+    shelf.bytes(name) == Some(bytes)
+}
+
+// Whether a read of up to four bytes from a place on gives these.
+fn reads<F: Shelf>(shelf: &mut F, name: &str, at: u64, wanted: &[u8]) -> Result<bool, Slip> {
+    let mut into = [0u8; 4];
+    let got = shelf.read_at(name, at, &mut into)?;
+    Ok(&into[..got] == wanted)
+}
+
+// Begins a file and appends two pieces, the first by one call. Whether that call takes it whole.
+fn begin_five<F: Shelf>(shelf: &mut F, name: &str) -> Result<bool, Slip> {
+    shelf.begin(name)?;
+    let taken = shelf.append(name, &[1, 2, 3])?;
+    append_all(shelf, name, &[4, 5])?;
+    Ok(taken == 3)
+}
 
 #[test]
 fn a_file_is_begun_appended_and_finished(rt: HostRuntime) -> Result<(), Fail> {
-    let mut shelf = MemShelf::new(rt.alloc());
-    shelf.put("b", &[9])?;
-    shelf.begin("b")?;
-    assert_eq!(rt; shelf.append("b", &[1, 2, 3])?, 3);
-    append_all(&mut shelf, "b", &[4, 5])?;
-    assert_eq!(rt; shelf.bytes("b"), Some([9].as_slice()), "not finished");
+    let mut shelf = one_file(rt.alloc(), "b", &[9])?;
+    assert!(rt; begin_five(&mut shelf, "b")?);
+    assert!(rt; has(&shelf, "b", &[9]), "not finished");
     shelf.finish("b")?;
-    assert_eq!(rt; shelf.bytes("b"), Some([1, 2, 3, 4, 5].as_slice()));
+    assert!(rt; has(&shelf, "b", &[1, 2, 3, 4, 5]));
     Ok(())
 }
 
 #[test]
 fn a_file_is_read_from_a_place_on(rt: HostRuntime) -> Result<(), Fail> {
-    let mut shelf = MemShelf::new(rt.alloc());
-    shelf.put("b", b"xyz")?;
+    let mut shelf = one_file(rt.alloc(), "b", b"xyz")?;
     shelf.put("b", &[1, 2, 3, 4, 5])?;
-    let mut into = [0u8; 4];
-    assert_eq!(rt; shelf.read_at("b", 1, &mut into)?, 4);
-    assert_eq!(rt; into.as_slice(), [2, 3, 4, 5].as_slice());
-    assert_eq!(rt; shelf.read_at("b", 4, &mut into)?, 1);
-    assert_eq!(rt; into[0], 5);
-    assert_eq!(rt; shelf.read_at("b", 5, &mut into)?, 0);
-    assert_eq!(rt; shelf.bytes("c"), None);
+    assert!(rt; reads(&mut shelf, "b", 1, &[2, 3, 4, 5])?);
+    assert!(rt; reads(&mut shelf, "b", 4, &[5])?);
+    assert!(rt; reads(&mut shelf, "b", 5, &[])?);
+    assert!(rt; shelf.bytes("c").is_none());
     Ok(())
 }
 
 #[test]
 fn reads_with_set_numbers_fail(rt: HostRuntime) -> Result<(), Fail> {
-    let mut shelf = MemShelf::new(rt.alloc());
-    let mut into = [0u8; 4];
-    shelf.put("a", &[7])?;
+    let mut shelf = one_file(rt.alloc(), "a", &[7])?;
     shelf.fail_call(0)?;
     shelf.fail_call(2)?;
-    assert_eq!(rt; shelf.read_at("a", 0, &mut into), Ok(1));
-    assert_eq!(rt; shelf.read_at("a", 0, &mut into), Err(Slip::Failed));
-    assert_eq!(rt; shelf.read_at("b", 0, &mut into), Err(Slip::Failed));
-    assert_eq!(rt; shelf.calls(), 3);
+    assert!(rt; reads(&mut shelf, "a", 0, &[7]) == Ok(true));
+    assert!(rt; reads(&mut shelf, "a", 0, &[7]) == Err(Slip::Failed));
+    assert!(rt; reads(&mut shelf, "b", 0, &[7]) == Err(Slip::Failed));
+    assert!(rt; shelf.calls() == 3);
     Ok(())
+}
+
+// Writes a file whose calls 1 and 3 fail. Whether just these fail.
+fn write_with_faults(shelf: &mut MemShelf) -> Result<bool, Slip> {
+    if shelf.begin("a") != Err(Slip::Failed) {
+        return Ok(false);
+    }
+    shelf.begin("a")?;
+    if shelf.append("a", &[9]) != Err(Slip::Failed) {
+        return Ok(false);
+    }
+    append_all(shelf, "a", &[8])?;
+    shelf.finish("a")?;
+    Ok(true)
 }
 
 #[test]
@@ -49,58 +87,60 @@ fn writes_with_set_numbers_fail(rt: HostRuntime) -> Result<(), Fail> {
     let mut shelf = MemShelf::new(rt.alloc());
     shelf.fail_call(1)?;
     shelf.fail_call(3)?;
-    assert_eq!(rt; shelf.begin("a"), Err(Slip::Failed), "call 1");
-    shelf.begin("a")?;
-    assert_eq!(rt; shelf.append("a", &[9]), Err(Slip::Failed), "call 3");
-    assert_eq!(rt; shelf.append("a", &[8]), Ok(1));
-    shelf.finish("a")?;
-    assert_eq!(rt; shelf.bytes("a"), Some([8].as_slice()));
+    assert!(rt; write_with_faults(&mut shelf)?);
+    assert!(rt; has(&shelf, "a", &[8]));
     Ok(())
 }
 
 #[test]
 fn what_is_not_begun_is_not_written(rt: HostRuntime) -> Result<(), Fail> {
-    let mut shelf = MemShelf::new(rt.alloc());
-    shelf.put("a", &[7])?;
-    assert_eq!(rt; shelf.append("a", &[9]), Err(Slip::Failed));
-    assert_eq!(rt; append_all(&mut shelf, "a", &[9]), Err(Slip::Failed));
-    assert_eq!(rt; shelf.finish("a"), Err(Slip::Failed));
-    assert_eq!(rt; shelf.bytes("a"), Some([7].as_slice()));
+    let mut shelf = one_file(rt.alloc(), "a", &[7])?;
+    assert!(rt; shelf.append("a", &[9]) == Err(Slip::Failed));
+    assert!(rt; append_all(&mut shelf, "a", &[9]) == Err(Slip::Failed));
+    assert!(rt; shelf.finish("a") == Err(Slip::Failed));
+    assert!(rt; has(&shelf, "a", &[7]));
     Ok(())
 }
 
 #[test]
 fn a_failed_finish_leaves_the_old_file(rt: HostRuntime) -> Result<(), Fail> {
-    let mut shelf = MemShelf::new(rt.alloc());
-    shelf.put("a", &[7])?;
-    shelf.fail_call(3)?;
-    shelf.begin("a")?;
-    assert_eq!(rt; shelf.append("a", &[9])?, 1);
-    assert_eq!(rt; shelf.finish("a"), Err(Slip::Failed));
-    assert_eq!(rt; shelf.bytes("a"), Some([7].as_slice()));
+    let mut shelf = one_file(rt.alloc(), "a", &[7])?;
+    shelf.fail_call(4)?;
+    assert!(rt; begin_five(&mut shelf, "a")?);
+    assert!(rt; shelf.finish("a") == Err(Slip::Failed));
+    assert!(rt; has(&shelf, "a", &[7]));
     Ok(())
+}
+
+// Appends two pieces, each by one call. Whether each is taken whole.
+fn append_three<F: Shelf>(shelf: &mut F, name: &str) -> Result<bool, Slip> {
+    let two = shelf.append(name, &[1, 2])?;
+    let one = shelf.append(name, &[3])?;
+    Ok(two == 2 && one == 1)
 }
 
 #[test]
 fn a_missing_file_counts_as_empty(rt: HostRuntime) -> Result<(), Fail> {
     let mut shelf = SoundShelf::new(rt.alloc());
-    let mut into = [0u8; 4];
-    assert_eq!(rt; shelf.read_at("a", 0, &mut into)?, 0);
-    assert_eq!(rt; shelf.bytes("a"), None);
-    assert_eq!(rt; shelf.append("a", &[1, 2])?, 2);
-    assert_eq!(rt; shelf.append("a", &[3])?, 1);
-    assert_eq!(rt; shelf.bytes("a"), None);
+    assert!(rt; reads(&mut shelf, "a", 0, &[])?);
+    assert!(rt; append_three(&mut shelf, "a")?);
+    assert!(rt; shelf.bytes("a").is_none());
     shelf.finish("a")?;
-    assert_eq!(rt; shelf.read_at("a", 1, &mut into)?, 2);
-    assert_eq!(rt; shelf.bytes("a"), Some([1, 2, 3].as_slice()));
+    assert!(rt; reads(&mut shelf, "a", 1, &[2, 3])?);
+    assert!(rt; sound_has(&shelf, "a", &[1, 2, 3]));
+    Ok(())
+}
+
+#[test]
+fn a_file_with_nothing_appended_is_finished_empty(rt: HostRuntime) -> Result<(), Fail> {
+    let mut shelf = SoundShelf::new(rt.alloc());
+    shelf.put("a", &[4])?;
     shelf.begin("a")?;
-    assert_eq!(rt; shelf.bytes("a"), Some([1, 2, 3].as_slice()));
+    assert!(rt; sound_has(&shelf, "a", &[4]));
     shelf.finish("a")?;
-    assert_eq!(rt; shelf.bytes("a"), Some([].as_slice()));
+    assert!(rt; sound_has(&shelf, "a", &[]));
     shelf.finish("c")?;
-    assert_eq!(rt; shelf.bytes("c"), Some([].as_slice()));
-    shelf.put("b", &[4])?;
-    assert_eq!(rt; shelf.bytes("b"), Some([4].as_slice()));
+    assert!(rt; sound_has(&shelf, "c", &[]));
     Ok(())
 }
 
@@ -108,9 +148,9 @@ fn a_missing_file_counts_as_empty(rt: HostRuntime) -> Result<(), Fail> {
 fn writes_with_set_numbers_fail_and_add_nothing(rt: HostRuntime) -> Result<(), Fail> {
     let mut out = MemOut::new(rt.alloc());
     out.fail_call(2)?;
-    assert_eq!(rt; out.write(b"ab")?, 2);
-    assert_eq!(rt; write_all(&mut out, b"cd"), Err(Slip::Failed));
+    assert!(rt; out.write(b"ab")? == 2);
+    assert!(rt; write_all(&mut out, b"cd") == Err(Slip::Failed));
     write_all(&mut out, b"ef")?;
-    assert_eq!(rt; out.bytes(), b"abef".as_slice());
+    assert!(rt; out.bytes() == b"abef".as_slice());
     Ok(())
 }
