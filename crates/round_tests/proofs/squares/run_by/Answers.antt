@@ -1,6 +1,6 @@
 use Rattle.std.proofs.Common.{◌≡◌, ◌*◌, ◌%◌, ◌^◌, ℕ, List, [], ◌∷◌, arith}
 use Rattle.std.proofs.lemmas.List.FromFn.{length-map-range_with_len}
-use Rattle.round_tests.proofs.squares.run.Goals as goal
+use Rattle.round_tests.proofs.squares.run_by.Goals as goal
 
 pub run_round-requires-clause-small : goal.run_round-requires-clause-small
 run_round-requires-clause-small g c κs within =
