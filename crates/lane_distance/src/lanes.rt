@@ -6,8 +6,8 @@ ghost use Rattle.ann_defs.specs.Distance.{squared_gap, dist_of};
 use ann_defs::MAX_DIM;
 use std::simd::prelude::*;
 
-/// The sum over as many whole chunks of N bytes as there are from `from` on. Returns the sum and the place of the first
-/// byte that isn't taken in.
+/// The sum over all whole chunks of N bytes that there are from `from` on. Returns the sum and the place of the first
+/// byte that isn't taken in: fewer than N are left.
 ///
 /// N is a power of two, at most 64.
 pub fn by_lanes<const N: usize>(a: &[u8], b: &[u8], from: usize) -> (u32, usize)
@@ -17,6 +17,7 @@ pub fn by_lanes<const N: usize>(a: &[u8], b: &[u8], from: usize) -> (u32, usize)
     requires from { from ≤ length a.now }
     ensures sum { result.0 + dist_of (drop result.1 a.now) (drop result.1 b.now) ≡ dist_of (drop from a.now) (drop from b.now) }
     ensures rest { result.1 ≤ length a.now }
+    ensures whole { length a.now < result.1 + N }
 {
     if a.len() - from < N {
         return (0, from);

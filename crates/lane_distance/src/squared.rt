@@ -1,5 +1,5 @@
 //! The squared Euclidean distance.
-ghost use Rattle.std.specs.Prelude.{◌≡◌, ◌*◌, ◌≤◌, length};
+ghost use Rattle.std.specs.Prelude.{◌≡◌, ◌+◌, ◌*◌, ◌<◌, ◌≤◌, length, drop};
 ghost use Rattle.ann_defs.specs.Distance.{dist_of};
 
 use crate::lanes::by_lanes;
@@ -17,8 +17,19 @@ pub fn dist(a: &[u8], b: &[u8]) -> u32
 {
     let (in_32, at) = by_lanes::<32>(a, b, 0);
     let (in_16, rest) = by_lanes::<16>(a, b, at);
-    let mut total = in_32 + in_16;
-    for i in rest..a.len() {
+    in_32 + in_16 + by_bytes(a, b, rest)
+}
+
+// The sum over the bytes from `from` on, one by one: what lanes leave, fewer than 16.
+fn by_bytes(a: &[u8], b: &[u8], from: usize) -> u32
+    requires alike { length a.now ≡ length b.now }
+    requires short { length a.now ≤ MAX_DIM }
+    requires from { from ≤ length a.now }
+    requires few { length a.now < from + 16 }
+    ensures { result ≡ dist_of (drop from a.now) (drop from b.now) }
+{
+    let mut total = 0;
+    for i in from..a.len() {
         let gap = a[i].abs_diff(b[i]) as u32;
         total += gap * gap;
     }
