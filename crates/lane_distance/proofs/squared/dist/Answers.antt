@@ -1,4 +1,4 @@
-use Rattle.std.proofs.Common.{◌*◌, ◌≤◌, arith}
+use Rattle.std.proofs.Common.{arith}
 use Rattle.lane_distance.proofs.Sums.{dist_small}
 use Rattle.lane_distance.proofs.squared.dist.Goals as goal
 
