@@ -4,6 +4,7 @@
 #![tactic(auto)]
 
 mod canonical;
+mod found;
 mod owned;
 mod program;
 mod through_clap;

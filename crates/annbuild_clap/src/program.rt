@@ -138,7 +138,7 @@ fn whole_program<'m>(alloc: Global) -> Result<Command<'m>, AllocError>
     add_commands(alloc, bare_program(alloc), &VERBS)
 }
 
-/// What clap makes of words that it takes. It fails for want of memory alone.
+/// What clap makes of words that it takes. It fails only with `NoMemory`.
 pub fn matches_of<'w>(alloc: Global, words: &'w [String]) -> Result<ArgMatches<'w>, Error>
     requires { takes program (texts words.now) ≡ true }
     ensures rows { IfOk result (λ m. subcommand_rows_of m ≡ subcommand_of program (texts words.entry.now)) }

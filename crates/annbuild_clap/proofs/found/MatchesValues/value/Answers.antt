@@ -4,7 +4,7 @@ use Rattle.clap.specs.Words.{found_of, first_of, rows_of}
 use Rattle.clap.proofs.WalkLemmas.{first_value-rows}
 use Rattle.annbuild_words.specs.ValueTexts.{value_or_default}
 use Rattle.command_options.specs.Options.{long_name}
-use Rattle.annbuild_clap.proofs.through_clap.MatchesValues.value.Goals as goal
+use Rattle.annbuild_clap.proofs.found.MatchesValues.value.Goals as goal
 
 pub returns : goal.returns
 returns c =

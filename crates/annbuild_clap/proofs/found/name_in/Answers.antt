@@ -3,7 +3,7 @@ use Rattle.clap.specs.Words.{found_of}
 use Rattle.clap.proofs.WalkLemmas.{first_value-rows}
 use Rattle.std.specs.Option.{unwrap_or}
 use Rattle.annbuild_clap.proofs.ByClap.{text_or}
-use Rattle.annbuild_clap.proofs.through_clap.name_in.Goals as goal
+use Rattle.annbuild_clap.proofs.found.name_in.Goals as goal
 
 pub returns : goal.returns
 returns c =
