@@ -36,7 +36,7 @@ rows : Gets (edited four_points 48 0) (Malformed 48 DoubleEdge) × Gets (edited 
 unfolding verdict index_in body_at header_at layers_at layer_at rows_at row_at ids_at layer_ids_at
 rows = (refl, refl, refl, refl)
 
-header : Gets (81 ∷ drop 1 four_points) (Malformed 0 Magic) × Gets (edited four_points 4 9) (Malformed 4 Version) × Gets (edited four_points 8 3) (Malformed 8 Kind) × Gets (edited four_points 12 0) (Malformed 12 ZeroCount)
+header : Gets (81 ∷ drop 1 four_points) (Malformed 0 Magic) × Gets (edited four_points 4 9) (Malformed 4 Version) × Gets (edited four_points 8 4) (Malformed 8 Kind) × Gets (edited four_points 12 0) (Malformed 12 ZeroCount)
     × Gets (edited four_points 16 0) (Malformed 16 ZeroDim) × Gets (edited four_points 20 0) (Malformed 20 Degree) × Gets (edited four_points 24 4) (Malformed 24 Start) × Gets (edited four_points 28 2) (Malformed 28 Layers)
 unfolding verdict index_in body_at header_at layers_at layer_at rows_at row_at ids_at layer_ids_at
 header = (refl, refl, refl, refl, refl, refl, refl, refl)

@@ -2,6 +2,7 @@
 use Rattle.std.proofs.Common.{◌≡◌, ℕ, ◌+◌, ◌-◌, ◌^◌, ◌<◌, ◌≤◌, Bool, true, cond, nat_lt, eqb, List, [], ◌∷◌, ◌++◌, length, drop, Option, Some, None, Ok, Err, refl, sym, ap, ◌∙◌, arith, length-append}
 use Rattle.std.specs.List.{range_with_len, enumerate_from, flat_map}
 use Rattle.std.proofs.lemmas.Bool.{le-ltb, ltb-true}
+use Rattle.std.proofs.lemmas.Bool.Decides.{nat_tests}
 use Rattle.std.proofs.lemmas.List.{append-nil, length-map}
 use Rattle.std.proofs.lemmas.List.FromFn.{length-range_with_len}
 use Rattle.graph_files.specs.declared.header.Header.{Header}
@@ -121,17 +122,21 @@ module _ (kind count dim degree start : ℕ) (base : Entries) (upper : List Entr
 abbrev as_index : ℕ → ℕ → ℕ → ℕ → ℕ → List Entries → Option Stamp → Contents
 as_index kind count dim degree start layers stamp = record { kind = kind; count = count; dim = dim; degree = degree; start = start; layers = layers; stamp = stamp }
 
+-- each kind of a well-formed index is read
+read_of_kind : (kind : ℕ) → (1 ≤ kind) × (kind ≤ 3) → is_read kind ≡ true
+read_of_kind kind is = let low = is.0 in let high = is.1 in grind (arith, nat_tests)
+
 split : (kind count dim degree start : ℕ) (layers : List Entries) (stamp : Option Stamp) → stamp ≡ None → IsWellFormed (as_index kind count dim degree start layers stamp)
-    → IsWithinLimits (as_index kind count dim degree start layers stamp) → is_read kind ≡ true
+    → IsWithinLimits (as_index kind count dim degree start layers stamp)
     → index_in (text_of (as_index kind count dim degree start layers stamp)) ≡ Ok (as_index kind count dim degree start layers stamp)
-split kind count dim degree start [] None none formed limits read = let some = layers_some kind 0 formed.layers in absurd (omega (arith, some.0))
-split kind count dim degree start (base ∷ upper) None none formed limits read = parts_read kind count dim degree start base upper formed limits read
-split kind count dim degree start layers (Some stamp) none formed limits read = absurd cc
+split kind count dim degree start [] None none formed limits = let some = layers_some kind 0 formed.layers in absurd (omega (arith, some.0))
+split kind count dim degree start (base ∷ upper) None none formed limits = parts_read kind count dim degree start base upper formed limits (read_of_kind kind formed.kind)
+split kind count dim degree start layers (Some stamp) none formed limits = absurd cc
 
 -- the text of a well-formed index is read as this index
-pub index_read : (i : Contents) → IsWellFormed i → IsWithinLimits i → is_read i.kind ≡ true → index_in (text_of i) ≡ Ok i
-index_read i formed limits read = split i.kind i.count i.dim i.degree i.start i.layers i.stamp formed.stamp formed limits read
+pub index_read : (i : Contents) → IsWellFormed i → IsWithinLimits i → index_in (text_of i) ≡ Ok i
+index_read i formed limits = split i.kind i.count i.dim i.degree i.start i.layers i.stamp formed.stamp formed limits
 
 -- two indexes with one text are one
-pub text_unique : (i j : Contents) → IsWellFormed i → IsWithinLimits i → is_read i.kind ≡ true → IsWellFormed j → IsWithinLimits j → is_read j.kind ≡ true → text_of i ≡ text_of j → i ≡ j
-text_unique i j formed limits read formed_too limits_too read_too same = ok_same i j (sym (index_read i formed limits read) ∙ ap index_in same ∙ index_read j formed_too limits_too read_too)
+pub text_unique : (i j : Contents) → IsWellFormed i → IsWithinLimits i → IsWellFormed j → IsWithinLimits j → text_of i ≡ text_of j → i ≡ j
+text_unique i j formed limits formed_too limits_too same = ok_same i j (sym (index_read i formed limits) ∙ ap index_in same ∙ index_read j formed_too limits_too)

@@ -7,7 +7,6 @@ use Rattle.graph_files.specs.declared.header.Header.{Header}
 use Rattle.graph_rows.specs.declared.index.Index.{Index}
 use Rattle.graph_files.specs.declared.fault.IndexFault.{IndexFault}
 use Rattle.graph_files.specs.Grammar.{header_at, body_at, index_in}
-use Rattle.graph_files.specs.Header.{is_read}
 use Rattle.graph_rows.specs.Index.{Contents, text_of}
 use Rattle.graph_files.specs.Reading.{AreBytesIn, Gives}
 use Rattle.graph_rows.specs.View.{contents}
@@ -49,6 +48,6 @@ module _ (held now : Option Files) (name : List ℕ) (h : Header) (same : now �
 
 -- a well-formed index within the limits whose text the file is
 pub complete_read : (held : Option Files) (name : List ℕ) (r : Result Index IndexFault) → IfSome held (λ files. Gives contents r (index_in (bytes_of files name)))
-    → IfSome held (λ files. (j : Contents) → IsWellFormed j → IsWithinLimits j → is_read j.kind ≡ true → text_of j ≡ bytes_of files name → Gives contents r (Ok j))
-complete_read held name r given = told_then held given (λ files g j formed limits read text.
-    gives_along contents r (index_in (bytes_of files name)) (Ok j) (ap index_in (sym text) ∙ index_read j formed limits read) g)
+    → IfSome held (λ files. (j : Contents) → IsWellFormed j → IsWithinLimits j → text_of j ≡ bytes_of files name → Gives contents r (Ok j))
+complete_read held name r given = told_then held given (λ files g j formed limits text.
+    gives_along contents r (index_in (bytes_of files name)) (Ok j) (ap index_in (sym text) ∙ index_read j formed limits) g)

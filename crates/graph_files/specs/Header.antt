@@ -1,5 +1,5 @@
 -- The header of a file: eight words, and the first broken rule of them.
-use Rattle.std.specs.Prelude.{ℕ, Bool, not, ◌||◌, ◌==◌, List, Option, Some, None, nat_lt, if◌then◌else◌}
+use Rattle.std.specs.Prelude.{ℕ, Bool, not, ◌&&◌, ◌==◌, nat_le, List, Option, Some, None, nat_lt, if◌then◌else◌}
 use Rattle.ann_defs.specs.declared.limits.TheConstants.{MAX_POINTS, MAX_DIM, MAX_WORDS}
 use Rattle.bin_files.specs.Points.{u32_at}
 use Rattle.ann_shelf.specs.declared.slip.Quantity.TheVariants.{Count, Dim, Degree as DegreeOf, Words}
@@ -28,7 +28,7 @@ is_version version = version == 1
 
 -- the kinds that are read
 abbrev pub is_read : ℕ → Bool
-is_read kind = kind == 1 || kind == 2
+is_read kind = nat_le 1 kind && nat_le kind 3
 
 -- the first field whose value the format does not allow
 abbrev pub form_fault : Header → Option IndexFault

@@ -40,7 +40,7 @@ fn is_read_version(version: u32) -> bool
 fn is_read_kind(kind: u32) -> bool
     ensures { result ≡ is_read kind }
 {
-    kind == 1 || kind == 2
+    1 <= kind && kind <= 3
 }
 
 // Whether a kind may have so many layers.

@@ -1,9 +1,9 @@
 //! Reading a file of an index.
-ghost use Rattle.std.specs.Prelude.{◌≡◌, ℕ, ◌⊎◌, ◌+◌, ◌<◌, ◌≤◌, ◌^◌, true, length, None, Ok, IfOk, IfErr, IfSome, IsErrOf, not, ◌==◌, drop};
+ghost use Rattle.std.specs.Prelude.{◌≡◌, ℕ, ◌⊎◌, ◌+◌, ◌<◌, ◌≤◌, ◌^◌, length, None, Ok, IfOk, IfErr, IfSome, IsErrOf, not, ◌==◌, drop};
 ghost use Rattle.ann_shelf.specs.Files.{bytes_of};
 ghost use Rattle.ann_shelf.specs.Shown.{OnlyReads};
 ghost use Rattle.graph_files.specs.Grammar.{body_at, index_in};
-ghost use Rattle.graph_files.specs.Header.{form_fault, limit_fault, is_read};
+ghost use Rattle.graph_files.specs.Header.{form_fault, limit_fault};
 ghost use Rattle.graph_rows.specs.Index.{Contents, text_of};
 ghost use Rattle.graph_files.specs.Reading.{AreBytesIn, Gives, Shows};
 ghost use Rattle.graph_rows.specs.View.{kind_code, contents};
@@ -120,7 +120,7 @@ pub fn read_index<F: Shelf>(alloc: Global, shelf: &mut F, name: &str) -> Result<
     // The file is the text of what is read.
     ensures text { IfOk result (λ i. IfSome (F.shown shelf.old).held (λ files. bytes_of files name.now ≡ text_of (contents i))) }
     // Where the file is the text of a well-formed index within the limits, this index is returned.
-    ensures complete { IfSome (F.shown shelf.old).held (λ files. (j : Contents) → IsWellFormed j → IsWithinLimits j → is_read j.kind ≡ true → text_of j ≡ bytes_of files name.now → Gives contents result (Ok j)) }
+    ensures complete { IfSome (F.shown shelf.old).held (λ files. (j : Contents) → IsWellFormed j → IsWithinLimits j → text_of j ≡ bytes_of files name.now → Gives contents result (Ok j)) }
     // The file is only read; the call fails with `Read` only where the count rose.
     ensures only_reads { OnlyReads (F.shown shelf.old) (F.shown shelf.new) name.now (IsErrOf result IndexFault.Read) }
 {

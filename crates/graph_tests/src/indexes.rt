@@ -131,6 +131,19 @@ fn an_index_is_read_and_written_back(rt: HostRuntime) -> Result<(), Fail> {
 }
 
 #[test]
+fn an_index_of_lists_is_read_and_written_back(rt: HostRuntime) -> Result<(), Fail> {
+    let mut bytes = FOUR_POINTS;
+    bytes[8] = 3;
+    let mut shelf = MemShelf::new(rt.alloc());
+    shelf.put("index", &bytes)?;
+    let index = read_index(rt.alloc(), &mut shelf, "index")?;
+    assert!(rt; matches!(index.kind, Kind::Nnd));
+    assert!(rt; write_index(&mut shelf, "copy", &index).is_ok());
+    assert_eq!(rt; shelf.bytes("copy").ok_or("no file")?, bytes.as_slice());
+    Ok(())
+}
+
+#[test]
 fn a_failed_call_is_told(rt: HostRuntime) -> Result<(), Fail> {
     let index = four_points(rt.alloc())?;
     let mut shelf = MemShelf::new(rt.alloc());
@@ -156,7 +169,7 @@ fn a_broken_rule_is_named_with_its_place(rt: HostRuntime) {
         (0, 81, IndexRule::Magic),
         (4, 2, IndexRule::Version),
         (8, 0, IndexRule::Kind),
-        (8, 3, IndexRule::Kind),
+        (8, 4, IndexRule::Kind),
         (12, 0, IndexRule::ZeroCount),
         (16, 0, IndexRule::ZeroDim),
         (20, 0, IndexRule::Degree),

@@ -17,7 +17,7 @@ type Broken = (usize, u8, u64, IndexRule);
 
 const TWO_BROKEN: [Broken; 15] = [
     (8, 1, 28, IndexRule::Layers),
-    (8, 3, 8, IndexRule::Kind),
+    (8, 3, 28, IndexRule::Layers),
     (20, 0, 20, IndexRule::Degree),
     (28, 0, 28, IndexRule::Layers),
     (28, 1, 68, IndexRule::Trailing),
