@@ -1,0 +1,4 @@
+pub mod Leaves
+pub mod Grown
+pub mod Blocks
+pub mod Tasks
