@@ -1,0 +1,15 @@
+pub mod NewRows
+pub mod Offers
+pub mod Reversing
+pub mod EdgeOrder
+pub mod NearestLists
+pub mod Neighbourhoods
+pub mod Joining
+pub mod EdgeFacts
+pub mod Belonging
+pub mod Counting
+pub mod LeafRows
+pub mod Activity
+pub mod SidesFacts
+pub mod GraphFacts
+pub mod Improving

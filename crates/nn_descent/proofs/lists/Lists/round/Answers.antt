@@ -1,0 +1,43 @@
+use Rattle.std.proofs.Common.{◌≡◌, ◌∙◌, ◌<◌, ℕ, List, length, sym, ap, subst}
+use Rattle.std.specs.List.{All, range_with_len, sum_by}
+use Rattle.nn_descent.specs.declared.edge.Edge.{Edge}
+use Rattle.nn_descent.specs.Changes.{entered_between}
+use Rattle.nn_descent.specs.Edges.{edges_of}
+use Rattle.nn_descent.specs.Settled.{IsStill}
+use Rattle.nn_descent.proofs.Belonging.{next_lists, round_belong}
+use Rattle.nn_descent.proofs.Counting.{entered_changed}
+use Rattle.nn_descent.proofs.EdgeFacts.{sources_inside}
+use Rattle.nn_descent.proofs.lists.Lists.round.Goals as goal
+
+pub enter-requires-clause-count : goal.enter-requires-clause-count
+enter-requires-clause-count g c = ap (λ (rows : List (List ℕ)). length rows) c.in-Ok.ensures.rows ∙ (next_lists c.args.points.now.vectors c.args.self.now c.requires).good.count ∙ sym c.requires.flags
+
+pub enter-requires-clause-sources : goal.enter-requires-clause-sources
+enter-requires-clause-sources g c =
+    let points = c.args.points.now.vectors in
+    let l = c.args.self.now in
+    let many : length l.rows ≡ length l.active = c.requires.rows.count ∙ sym c.requires.flags in
+    subst (λ n. All (λ (e : Edge). e.source.id < n) l.edges) many
+    (subst (All (λ (e : Edge). e.source.id < length l.rows)) (sym c.requires.edges) (sources_inside points l.rows))
+
+pub returns-in-Ok-clause-changed : goal.returns-in-Ok-clause-changed
+returns-in-Ok-clause-changed g c =
+    let points = c.args.points.now.vectors in
+    let l = c.args.self.now in
+    c.enter.ensures.changes
+    ∙ ap (λ (rows : List (List ℕ)). sum_by (entered_between l.rows rows) (range_with_len 0 (length rows))) c.in-Ok.ensures.rows
+    ∙ entered_changed points l.list l.rows
+
+pub returns-in-Ok-clause-belong : goal.returns-in-Ok-clause-belong
+returns-in-Ok-clause-belong g c =
+    let points = c.args.points.now.vectors in
+    let l = c.args.self.now in
+    let k = c.enter.new.self in
+    let next = c.in-Ok.next in
+    let rows = c.enter.ensures.rows ∙ c.in-Ok.ensures.rows in
+    let edges : k.edges ≡ edges_of points k.rows = c.enter.ensures.edges ∙ c.in-Ok.ensures.edges ∙ ap (edges_of points) (sym rows) in
+    round_belong points l k c.requires c.enter.ensures.list rows edges (c.enter.ensures.flags ∙ c.requires.flags)
+    (λ v below h.
+    let still = c.enter.ensures.still v (subst (λ n. v < n) (sym c.requires.flags) below) h in
+    subst (λ (es : List Edge). IsStill l.list l.rows l.edges k.rows es v) (sym c.enter.ensures.edges)
+    (subst (λ (rows : List (List ℕ)). IsStill l.list l.rows l.edges rows next.edges v) (sym c.enter.ensures.rows) still))

@@ -1,0 +1,69 @@
+//! All lists after a round.
+ghost use Rattle.std.specs.Prelude.{◌≡◌, ◌^◌, ◌<◌, IfOk, length};
+ghost use Rattle.nn_descent.specs.Held.{BelongTo};
+ghost use Rattle.nn_descent.specs.ListRound.{next_rows};
+ghost use Rattle.nn_descent.specs.Rounds.{active_ids};
+
+use crate::lists::Lists;
+use crate::nearest::posts_for;
+use crate::next_row::NextRow;
+use crate::others::other_sides;
+use crate::row_tasks::put_rows;
+use ann_shelf::{Gate, NoMemory};
+use bin_files::Points;
+use graph_rows::FlatGraph;
+use std::alloc::Global;
+use std::thread::Threads;
+use steal_pool::Rounds;
+
+/// The lists after a round, computed from the lists before it: those of active points by a task each, all others stay.
+///
+/// Where no point is active there is no round on the pool. Memory: rows twice as large as the lists, the active ids, and a scratch for each worker.
+pub(crate) fn next_lists<R: Threads + Sync, P: Rounds, G: Gate + Sync>(
+    rt: &R,
+    alloc: Global,
+    points: &Points,
+    lists: &Lists,
+    pool: &mut P,
+    gate: &G,
+) -> Result<FlatGraph, NoMemory>
+    requires { BelongTo points.now.vectors lists.now }
+    ensures rows { IfOk result (λ g. g.rows ≡ next_rows points.now.vectors lists.now.list lists.now.rows) }
+    ensures width { IfOk result (λ g. g.width ≡ lists.now.list) }
+    ensures workers { P.count pool.new ≡ P.count pool.old }
+{
+    let mut rows = lists.rows.copy(alloc)?;
+    let ids = list_active(alloc, lists)?;
+    let mut posts = posts_for(alloc, points, lists.list, pool.workers())?;
+    let others = other_sides(alloc, points, &lists.rows, &lists.edges)?;
+    let rule = NextRow {
+        points,
+        rows: &lists.rows,
+        others: &others,
+    };
+    put_rows(
+        rt,
+        alloc,
+        pool,
+        &rule,
+        ids.as_slice(),
+        &mut rows,
+        &mut posts,
+        gate,
+    )?;
+    Ok(rows)
+}
+
+// The active points, ascending.
+fn list_active(alloc: Global, lists: &Lists) -> Result<Vec<u32>, NoMemory>
+    requires { length lists.now.active < 2 ^ 32 }
+    ensures { IfOk result (λ ids. ids.items ≡ active_ids lists.now) }
+{
+    let mut ids = Vec::with_capacity(alloc, lists.active.len())?;
+    for v in 0..lists.active.len() {
+        if lists.active[v] {
+            ids.push(v as u32)?;
+        }
+    }
+    Ok(ids)
+}
