@@ -21,6 +21,10 @@ pub(crate) const FOUR_WIDE: &[u8] =
 pub(crate) const FOUR_IN_ONE_LAYER: &[u8] =
     b"PANN\x01\0\0\0\x02\0\0\0\x04\0\0\0\x01\0\0\0\x01\0\0\0\0\0\0\0\x01\0\0\0\x01\0\0\0\x01\0\0\0\x02\0\0\0\0\0\0\0\x02\0\0\0\x01\0\0\0\x01\0\0\0\x01\0\0\0\x01\0\0\0";
 
+/// An index of lists of them: kind 3, and the rows of [`FOUR_BY_ONE`].
+pub(crate) const FOUR_IN_LISTS: &[u8] =
+    b"PANN\x01\0\0\0\x03\0\0\0\x04\0\0\0\x01\0\0\0\x02\0\0\0\0\0\0\0\x01\0\0\0\x01\0\0\0\x01\0\0\0\x02\0\0\0\0\0\0\0\x02\0\0\0\x02\0\0\0\x01\0\0\0\x03\0\0\0\x01\0\0\0\x02\0\0\0";
+
 /// The settings of [`FOUR_BY_FOUR`] and [`FOUR_BY_ONE`] but for the cap.
 pub(crate) const FOUR_LINE: &[u8] =
     b"built vamana count 4 dim 1 degree 2 start 0 layers 1 edges 5\n";

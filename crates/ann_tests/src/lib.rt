@@ -19,6 +19,10 @@ mod large;
 #[cfg(test)]
 mod layered;
 #[cfg(test)]
+mod listed;
+#[cfg(test)]
+mod made;
+#[cfg(test)]
 mod memory;
 #[cfg(test)]
 mod query;

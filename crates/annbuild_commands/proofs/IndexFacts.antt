@@ -1,14 +1,12 @@
 -- The index that a build gives, its line, and the words of its rows.
-use Rattle.std.proofs.Common.{◌≡◌, ◌∙◌, ◌≤◌, ◌<◌, ℕ, List, length, refl, sym, ap, subst, arith, Result, Ok, Err, IfOk, OnOk, Some, None, Bool, true, false, cond, nat_lt}
+use Rattle.std.proofs.Common.{◌≡◌, ◌≤◌, ℕ, List, length, refl, sym, ap, subst, arith, Result, Ok, Err, IfOk, OnOk, Some, None, Bool, true, false, cond, nat_lt}
 use Rattle.std.specs.Prelude.{◌&&◌, ◌==◌}
-use Rattle.std.proofs.lemmas.Bool.{ltb-true, ltb-false}
 use Rattle.std.proofs.lemmas.Bool.Decides.{nat_tests}
 use Rattle.ann_defs.proofs.Members.{and_both}
-use Rattle.ann_defs.specs.declared.limits.TheConstants.{MAX_WORDS}
 use Rattle.ann_defs.specs.declared.kinds.Kind.{Kind}
 use Rattle.ann_defs.specs.declared.kinds.Kind.TheVariants.{Vamana, Hnsw, Nnd}
-use Rattle.ann_shelf.specs.declared.slip.Quantity.TheVariants.{Words}
-use Rattle.graph_rows.specs.Index.{Contents, text_of, edges_of}
+use Rattle.ann_shelf.specs.declared.slip.Quantity.{Quantity}
+use Rattle.graph_rows.specs.Index.{Contents, text_of, edges_of, longest_of}
 use Rattle.graph_rows.specs.View.{kind_code}
 use Rattle.graph_rows.specs.WellFormed.{layers_fit}
 use Rattle.vamana_build.specs.declared.settings.VamanaSettings.{VamanaSettings}
@@ -16,13 +14,20 @@ use Rattle.vamana_build.specs.Builds.{order_of}
 use Rattle.vamana_build.specs.VamanaIndex.{vamana_index}
 use Rattle.hnsw_build.specs.HnswIndex.{hnsw_index}
 use Rattle.hnsw_build.specs.declared.settings.HnswSettings.{HnswSettings}
-use Rattle.annbuild_lines.specs.Lines.{built_text}
+use Rattle.nn_descent.specs.NndIndex.{nnd_index}
+use Rattle.nn_descent.specs.declared.settings.NndSettings.{NndSettings}
+use Rattle.annbuild_lines.specs.Lines.{built_text, checked_text}
 use Rattle.annbuild_lines.specs.declared.fault.Fault.{Fault}
 use Rattle.annbuild_lines.specs.declared.fault.Fault.TheVariants.{TooLarge}
 use Rattle.command_shapes.proofs.Ending.{IsOfFiles}
 use Rattle.command_options.specs.declared.settings.Settings.{Settings}
-use Rattle.annbuild_commands.specs.IndexOf.{vamana_of, hnsw_of, hnsw_settings, levels_for, index_by, index_of, words_by, words_of, file_of, line_of, told_of, kind_at}
-use Rattle.annbuild_commands.specs.Building.{words_refusal}
+use Rattle.command_options.specs.declared.verb.Verb.{Verb}
+use Rattle.command_options.specs.Settings.{IsInRange}
+use Rattle.command_options.specs.Shapes.{shape_kind}
+use Rattle.command_options.specs.Forms.{greatest_degree}
+use Rattle.annbuild_commands.specs.IndexOf.{AreForBuild, vamana_of, hnsw_of, nnd_of, hnsw_settings, levels_for, index_by, index_of, words_by, words_of, file_of, line_of, told_of, kind_at}
+use Rattle.annbuild_commands.specs.Limits.{limit_refusal}
+use Rattle.annbuild_commands.specs.Checking.{checked_of}
 
 pub file_is : (i : Contents) → text_of i ≡ file_of i
 unfolding file_of
@@ -31,6 +36,10 @@ file_is i = refl
 pub line_is : (i : Contents) → built_text (told_of i) ≡ line_of i
 unfolding line_of
 line_is i = refl
+
+pub checked_is : (i : Contents) → checked_text (told_of i) (longest_of i) ≡ checked_of i
+unfolding checked_of
+checked_is i = refl
 
 some_same : (u v : Fault) → Some u ≡ Some v → u ≡ v
 some_same u v s = cc
@@ -52,19 +61,48 @@ few_layers kind layers h =
       | false ↦ λ e. grind (arith, nat_tests)
     ] h
 
--- the line that tells of an index
-pub told_line : (i : Contents) (kind : Kind) (layers edges : ℕ) → kind_at i.kind ≡ kind → layers ≡ length i.layers → edges ≡ edges_of i
-    → built_text (record { kind = kind; count = i.count; dim = i.dim; degree = i.degree; start = i.start; layers = layers; edges = edges }) ≡ line_of i
-told_line i kind layers edges k l e =
-    let same : record { kind = kind; count = i.count; dim = i.dim; degree = i.degree; start = i.start; layers = layers; edges = edges } ≡ told_of i =
-    λ j. record { kind = sym k j; count = i.count; dim = i.dim; degree = i.degree; start = i.start; layers = l j; edges = e j } in
-    ap built_text same ∙ line_is i
+-- what tells of an index
+pub told_is : (i : Contents) (kind : Kind) (layers edges : ℕ) → kind_at i.kind ≡ kind → layers ≡ length i.layers → edges ≡ edges_of i
+    → record { kind = kind; count = i.count; dim = i.dim; degree = i.degree; start = i.start; layers = layers; edges = edges } ≡ told_of i
+told_is i kind layers edges k l e = λ j. record { kind = sym k j; count = i.count; dim = i.dim; degree = i.degree; start = i.start; layers = l j; edges = e j }
+
+-- the settings that commands which build any kind have are those of a build
+pub for_build : (v : Verb) (o : Settings) → shape_kind v o.kind ≡ o.kind → IsInRange v o → AreForBuild o
+for_build v o same r = record {
+  some_worker = r.some_worker;
+  workers = r.workers;
+  some_degree = r.some_degree;
+  degree = r.degree;
+  bound = subst (λ k. o.degree ≤ greatest_degree k) same r.bound;
+  some_beam = r.some_beam;
+  beam = r.beam;
+  some_den = r.some_den;
+  ordered = r.ordered;
+  num = r.num;
+  cap = r.cap;
+  some_bit = r.some_bit;
+  bits = r.bits;
+  max_level = r.max_level;
+  some_entry = r.some_entry;
+  list = r.list;
+  some_tree = r.some_tree;
+  trees = r.trees;
+  two_in_a_leaf = r.two_in_a_leaf;
+  leaf = r.leaf;
+  rounds = r.rounds;
+}
 
 -- the builder's index is the one that a build must give
 pub same_index : (X : List (List ℕ)) (s : VamanaSettings) (o : Settings) → s.order ≡ o.order → s.start ≡ o.start → s.seed ≡ o.seed → s.degree ≡ o.degree → s.beam ≡ o.beam
     → s.alpha.num ≡ o.num → s.alpha.den ≡ o.den → s.cap ≡ o.cap → vamana_index X s ≡ vamana_of X o
 unfolding order_of vamana_of
 same_index X s o a b c d e f g h = λ i. vamana_of X (record o { order = a i; start = b i; seed = c i; degree = d i; beam = e i; num = f i; den = g i; cap = h i })
+
+-- the same of the builder of lists
+pub same_lists : (X : List (List ℕ)) (s : NndSettings) (o : Settings) → s.start ≡ o.start → s.seed ≡ o.seed → s.degree ≡ o.degree → s.alpha.num ≡ o.num → s.alpha.den ≡ o.den
+    → s.list ≡ o.list → s.trees ≡ o.trees → s.leaf ≡ o.leaf → s.rounds ≡ o.rounds → s.floor ≡ o.floor → nnd_index X s ≡ nnd_of X o
+unfolding nnd_of
+same_lists X s o a b c d e f g h i j = λ k. nnd_of X (record o { start = a k; seed = b k; degree = c k; num = d k; den = e k; list = f k; trees = g k; leaf = h k; rounds = i k; floor = j k })
 
 -- the index that settings of a kind ask for, and its words
 pub index_is : (X : List (List ℕ)) (o : Settings) (k : Kind) → o.kind ≡ k → index_by k X o ≡ index_of X o
@@ -88,23 +126,10 @@ pub both_ok : {T : Type 0} (r : Result T Fault) (P : Type 0) (Q R : T → Type 0
 both_ok (Ok x) P Q R f p q = f x p q
 both_ok (Err fault) P Q R f p q = tt
 
--- words over their limit are a refusal of files
-words_of_files : (over : Bool) (words : ℕ) (fault : Fault) → cond over (Some (TooLarge Words words MAX_WORDS)) None ≡ Some fault → IsOfFiles fault
-words_of_files true words fault e = subst IsOfFiles (some_same (TooLarge Words words MAX_WORDS) fault e) tt
-words_of_files false words fault e = absurd (none_is_some fault e)
+-- a number over its limit is a refusal of files
+over_fault : (over : Bool) (name : Quantity) (value limit : ℕ) (fault : Fault) → cond over (Some (TooLarge name value limit)) None ≡ Some fault → IsOfFiles fault
+over_fault true name value limit fault e = subst IsOfFiles (some_same (TooLarge name value limit) fault e) tt
+over_fault false name value limit fault e = absurd (none_is_some fault e)
 
-pub words_fault : (words : ℕ) (fault : Fault) → words_refusal words ≡ Some fault → IsOfFiles fault
-words_fault words fault e = words_of_files (nat_lt MAX_WORDS words) words fault e
-
--- the words of the rows against their limit
-pub words_over : (words : ℕ) → MAX_WORDS < words → words_refusal words ≡ Some (TooLarge Words words MAX_WORDS)
-words_over words over = elim (nat_lt MAX_WORDS words) as (λ b. nat_lt MAX_WORDS words ≡ b → words_refusal words ≡ Some (TooLarge Words words MAX_WORDS)) [
-  | true ↦ λ e. cc
-  | false ↦ λ e. absurd (omega (arith, over, ltb-false MAX_WORDS words e))
-] refl
-
-pub words_under : (words : ℕ) → words ≤ MAX_WORDS → words_refusal words ≡ None
-words_under words under = elim (nat_lt MAX_WORDS words) as (λ b. nat_lt MAX_WORDS words ≡ b → words_refusal words ≡ None) [
-  | true ↦ λ e. absurd (omega (arith, under, ltb-true MAX_WORDS words e))
-  | false ↦ λ e. cc
-] refl
+pub limit_fault : (name : Quantity) (value limit : ℕ) (fault : Fault) → limit_refusal name value limit ≡ Some fault → IsOfFiles fault
+limit_fault name value limit fault e = over_fault (nat_lt limit value) name value limit fault e

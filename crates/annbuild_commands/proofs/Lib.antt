@@ -4,3 +4,7 @@ pub mod BuildFacts
 pub mod QueryFacts
 pub mod Tells
 pub mod TopClauses
+pub mod CheckFacts
+pub mod Unread
+pub mod MakeFacts
+pub mod TrialFacts

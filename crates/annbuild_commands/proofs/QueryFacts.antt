@@ -1,26 +1,21 @@
 -- What is left of a query once its files are read and fit together.
-use Rattle.std.proofs.Common.{◌≡◌, ◌∙◌, ℕ, true, List, sym, ap, subst, refl, None, IfSome, Option}
+use Rattle.std.proofs.Common.{◌≡◌, ◌∙◌, ℕ, true, List, sym, ap, refl, None, IfSome, Option}
 use Rattle.ann_defs.specs.Distance.{PointSet}
-use Rattle.bin_files.specs.Points.{text}
-use Rattle.bin_files.specs.Rows.{ArePoints}
 use Rattle.ann_shelf.specs.Files.{Files, bytes_of}
 use Rattle.graph_rows.specs.Index.{Contents}
 use Rattle.batch_search.specs.Answers.{answers_of}
 use Rattle.command_options.specs.declared.settings.Settings.{Settings}
-use Rattle.command_options.specs.declared.role.Role.{Role}
 use Rattle.command_options.specs.declared.role.Role.TheVariants.{Base, Index, Queries}
 use Rattle.bin_files.proofs.Pieces.{both_told}
 use Rattle.command_shapes.specs.Doing.{first_refused}
-use Rattle.command_shapes.specs.Reading.{AreOf, IsOf, IsPointsText}
+use Rattle.command_shapes.specs.Reading.{AreOf, IsOf}
+use Rattle.command_shapes.proofs.Refusals.{points_text}
 use Rattle.command_shapes.proofs.Told.{both_pair}
 use Rattle.command_shapes.proofs.Ending.{Leads, refusal_is}
 use Rattle.command_shapes.specs.AnswerLines.{lines_from}
-use Rattle.annbuild_commands.specs.Querying.{querying, unfit_in}
+use Rattle.annbuild_commands.specs.Fitting.{unfit_in}
+use Rattle.annbuild_commands.specs.Querying.{querying}
 use Rattle.annbuild_commands.proofs.Fits.{unfit_read, answers_are}
-
--- the file that points were read from is their text
-pub points_text : (role : Role) (file : List ℕ) (X : PointSet) → AreOf role file X → IsPointsText file
-points_text role file X of = (subst (λ (Y : PointSet). ArePoints Y.vectors) of.points_are of.limits, of.text_is ∙ ap text of.points_are)
 
 pub query_leads : (held : Option Files) (base index queries : List ℕ) (X Q : PointSet) (i : Contents) (o : Settings)
     → IfSome held (λ files. AreOf Base (bytes_of files base) X) → IfSome held (λ files. IsOf Index (bytes_of files index) i) → IfSome held (λ files. AreOf Queries (bytes_of files queries) Q)

@@ -1,17 +1,14 @@
 -- `build` as data.
-use Rattle.std.specs.Prelude.{◌≡◌, ℕ, true, nat_lt, if◌then◌else◌, List, [], ◌∷◌, length, Option, Some, None}
-use Rattle.ann_defs.specs.declared.limits.TheConstants.{MAX_WORDS}
-use Rattle.ann_shelf.specs.declared.slip.Quantity.TheVariants.{Words}
+use Rattle.std.specs.Prelude.{◌≡◌, ℕ, true, List, [], ◌∷◌, length, Some, None}
 use Rattle.ann_shelf.specs.Files.{bytes_of}
 use Rattle.graph_rows.specs.Index.{Contents}
 use Rattle.command_options.specs.declared.settings.Settings.{Settings}
-use Rattle.annbuild_lines.specs.declared.fault.Fault.{Fault}
-use Rattle.annbuild_lines.specs.declared.fault.Fault.TheVariants.{TooLarge}
 use Rattle.command_options.specs.declared.role.Role.TheVariants.{Base, Index}
 use Rattle.command_shapes.specs.Doing.{Stored, Doing}
 use Rattle.command_shapes.specs.Faults.{points_refusal}
 use Rattle.command_shapes.specs.Reading.{points_read, points_in, IsPointsText}
 use Rattle.annbuild_commands.specs.IndexOf.{index_of, file_of, line_of, words_of}
+use Rattle.annbuild_commands.specs.Limits.{words_refusal}
 
 -- the bytes of the index of what a file of points holds
 abbrev pub index_text : List ℕ → Settings → List ℕ
@@ -20,10 +17,6 @@ index_text file o = file_of (index_of (points_in file) o)
 -- the line of that index
 abbrev pub index_line : List ℕ → Settings → List ℕ
 index_line file o = line_of (index_of (points_in file) o)
-
--- the words of an index that are over their limit
-abbrev pub words_refusal : ℕ → Option Fault
-words_refusal words = if nat_lt MAX_WORDS words then Some (TooLarge Words words MAX_WORDS) else None
 
 -- the index file of a build
 abbrev pub index_stored : List ℕ → List ℕ → Settings → Stored

@@ -1,7 +1,9 @@
 -- The index that a build must give. No number of workers and no pool is among what it depends on.
-use Rattle.std.specs.Prelude.{ℕ, ◌+◌, ◌*◌, ◌==◌, if◌then◌else◌, List, length, slice_index}
+use Rattle.std.specs.Prelude.{ℕ, ◌+◌, ◌*◌, ◌≤◌, ◌==◌, if◌then◌else◌, max, List, [], length, replicate, slice_index, IfSome}
+use Rattle.std.specs.List.{fold, range_with_len}
 use Rattle.ann_defs.specs.Distance.{dim_of}
 use Rattle.ann_defs.specs.BatchInsert.{Build, cap_of, total_of, graph_after}
+use Rattle.ann_defs.specs.declared.limits.TheConstants.{MAX_BEAM, MAX_DEGREE, MAX_POINTS, MAX_WORKERS}
 use Rattle.ann_defs.specs.declared.kinds.Kind.{Kind}
 use Rattle.ann_defs.specs.declared.kinds.Kind.TheVariants.{Vamana, Hnsw, Nnd}
 use Rattle.graph_rows.specs.Index.{Contents, flat_contents, edges_of, text_of}
@@ -10,9 +12,38 @@ use Rattle.seeded_order.specs.Levels.{levels_of}
 use Rattle.hnsw_build.specs.Layering.{words_in}
 use Rattle.hnsw_build.specs.HnswIndex.{hnsw_index}
 use Rattle.hnsw_build.specs.declared.settings.HnswSettings.{HnswSettings}
+use Rattle.pivot_trees.specs.Leaves.{leaves_of, leaf_with}
+use Rattle.nn_descent.specs.ListRound.{with_leaves}
+use Rattle.nn_descent.specs.SearchGraph.{graph_rows}
+use Rattle.nn_descent.specs.NndIndex.{start_of, improved}
 use Rattle.command_options.specs.declared.settings.Settings.{Settings}
-use Rattle.annbuild_lines.specs.declared.line.BuiltLine.{BuiltLine}
+use Rattle.command_options.specs.Forms.{greatest_degree}
+use Rattle.annbuild_lines.specs.declared.index_lines.BuiltLine.{BuiltLine}
 use Rattle.annbuild_lines.specs.Lines.{built_text}
+
+-- settings that a build may have
+pub record AreForBuild (o : Settings) : Type 0 where
+  pub some_worker : 1 ≤ o.workers
+  pub workers : o.workers ≤ MAX_WORKERS
+  pub some_degree : 1 ≤ o.degree
+  pub degree : o.degree ≤ MAX_DEGREE
+  pub bound : o.degree ≤ greatest_degree o.kind
+  pub some_beam : 1 ≤ o.beam
+  pub beam : o.beam ≤ MAX_BEAM
+  pub some_den : 1 ≤ o.den
+  pub ordered : o.den ≤ o.num
+  pub num : o.num ≤ 1000
+  pub cap : IfSome o.cap (λ cap. (1 ≤ cap) × (cap ≤ MAX_POINTS))
+  pub some_bit : 1 ≤ o.bits
+  pub bits : o.bits ≤ 8
+  pub max_level : o.max_level ≤ 15
+  pub some_entry : 1 ≤ o.list
+  pub list : o.list ≤ 128
+  pub some_tree : 1 ≤ o.trees
+  pub trees : o.trees ≤ 64
+  pub two_in_a_leaf : 2 ≤ o.leaf
+  pub leaf : o.leaf ≤ 1024
+  pub rounds : o.rounds ≤ 64
 
 -- the Vamana index of a point set: the order, start, seed, degree, beam, alpha and cap of the settings decide it
 unfoldable pub vamana_of : List (List ℕ) → Settings → Contents
@@ -34,10 +65,21 @@ hnsw_settings o = record { order = o.order; seed = o.seed; degree = o.degree; be
 unfoldable pub hnsw_of : List (List ℕ) → Settings → Contents
 hnsw_of X o = hnsw_index X (hnsw_settings o) (levels_for (length X) o)
 
--- the index of each kind; the words ask for no third kind yet
+-- the lists of nearest neighbours of a point set: those of its trees, improved in rounds
+abbrev pub lists_for : List (List ℕ) → Settings → List (List ℕ)
+lists_for X o =
+    let with_tree : List (List ℕ) → ℕ → List (List ℕ) = λ rows t. with_leaves X o.list (leaf_with (leaves_of X o.seed t o.leaf)) rows in
+    improved X o.list o.floor o.rounds (fold with_tree (replicate (length X) []) (range_with_len 0 o.trees))
+
+-- the index of nearest-neighbour lists of a point set: the search graph of the lists
+unfoldable pub nnd_of : List (List ℕ) → Settings → Contents
+nnd_of X o = flat_contents 3 (length X) (dim_of X) o.degree (start_of X o.start) (graph_rows X (lists_for X o) o.num o.den o.degree)
+
+-- the index of each kind
 abbrev pub index_by : Kind → List (List ℕ) → Settings → Contents
+index_by Vamana X o = vamana_of X o
 index_by Hnsw X o = hnsw_of X o
-index_by kind X o = vamana_of X o
+index_by Nnd X o = nnd_of X o
 
 -- the index that a build of a point set with these settings must give
 unfoldable pub index_of : List (List ℕ) → Settings → Contents
@@ -51,10 +93,15 @@ vamana_words n o = n * (o.degree + 1)
 abbrev pub hnsw_words : ℕ → Settings → ℕ
 hnsw_words n o = words_in (levels_for n o) o.degree
 
+-- the words that the lists of so many points take, or the rows of their index, whichever are more
+abbrev pub nnd_words : ℕ → Settings → ℕ
+nnd_words n o = n * (max o.list o.degree + 1)
+
 -- the words in an index of each kind
 abbrev pub words_by : Kind → ℕ → Settings → ℕ
+words_by Vamana n o = vamana_words n o
 words_by Hnsw n o = hnsw_words n o
-words_by kind n o = vamana_words n o
+words_by Nnd n o = nnd_words n o
 
 -- the words that the rows of the index of so many points take
 abbrev pub words_of : ℕ → Settings → ℕ

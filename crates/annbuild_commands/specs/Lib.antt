@@ -1,6 +1,11 @@
 pub mod IndexOf
+pub mod Limits
+pub mod Fitting
 pub mod Building
 pub mod Querying
+pub mod Checking
+pub mod Making
+pub mod Trying
 pub mod Commands
 pub mod Ending
 pub mod Promises

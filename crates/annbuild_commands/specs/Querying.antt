@@ -1,6 +1,5 @@
 -- `query` as data.
-use Rattle.std.specs.Prelude.{ℕ, true, not, ◌==◌, if◌then◌else◌, List, [], ◌∷◌, length, Option, Some, None, Result, Ok, Err}
-use Rattle.ann_defs.specs.Distance.{dim_of}
+use Rattle.std.specs.Prelude.{ℕ, true, List, [], ◌∷◌, None, Result, Ok, Err}
 use Rattle.ann_defs.specs.declared.near.Near.{Near}
 use Rattle.ann_shelf.specs.Files.{bytes_of}
 use Rattle.graph_files.specs.declared.fault.IndexFault.{IndexFault}
@@ -10,29 +9,11 @@ use Rattle.graph_rows.specs.View.{contents}
 use Rattle.batch_search.specs.Answers.{answers_of}
 use Rattle.batch_search.specs.declared.batch.QueryBatch.{QueryBatch}
 use Rattle.command_options.specs.declared.settings.Settings.{Settings}
-use Rattle.annbuild_lines.specs.declared.fault.Fault.{Fault}
-use Rattle.annbuild_lines.specs.declared.fault.Fault.TheVariants.{Unfit}
 use Rattle.command_options.specs.declared.role.Role.TheVariants.{Base, Index, Queries}
-use Rattle.annbuild_lines.specs.declared.fault.What.TheVariants.{Count, Dim}
 use Rattle.command_shapes.specs.AnswerLines.{lines_from}
 use Rattle.command_shapes.specs.Doing.{Doing}
 use Rattle.command_shapes.specs.Reading.{points_read, index_read, points_in, IsPointsText}
-
--- the first numbers that differ: the index's count, its dimension, the queries' dimension, each against the points'
-abbrev pub unfit_in : List (List ℕ) → Contents → List (List ℕ) → Option Fault
-unfit_in points i queries =
-    if not (i.count == length points) then Some (Unfit Index Count i.count (length points))
-    else if not (i.dim == dim_of points) then Some (Unfit Index Dim i.dim (dim_of points))
-    else if not (dim_of queries == dim_of points) then Some (Unfit Queries Dim (dim_of queries) (dim_of points))
-    else None
-
--- the same of files, where the one of the index holds an index
-abbrev pub unfit_with : List (List ℕ) → Result Contents IndexFault → List (List ℕ) → Option Fault
-unfit_with points (Ok i) queries = unfit_in points i queries
-unfit_with points (Err fault) queries = None
-
-unfoldable pub unfit_files : (base index queries : List ℕ) → Option Fault
-unfit_files base index queries = unfit_with (points_in base) (index_in index) (points_in queries)
+use Rattle.annbuild_commands.specs.Fitting.{unfit_files}
 
 -- the answers in an index, if there is one
 abbrev pub answers_with : List (List ℕ) → Result Contents IndexFault → List (List ℕ) → Settings → List (List Near)

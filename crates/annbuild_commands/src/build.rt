@@ -9,33 +9,17 @@ ghost use Rattle.command_options.specs.declared.role.Role.TheVariants as roles;
 ghost use Rattle.ann_shelf.specs.Written.{Got};
 ghost use Rattle.command_shapes.specs.Ends.{Ends, HaveRead, fault_in};
 ghost use Rattle.command_shapes.specs.Reading.{points_read};
-ghost use Rattle.annbuild_commands.specs.IndexOf.{line_of};
 ghost use Rattle.annbuild_commands.specs.Building.{building, IsIndexOf};
 
 use crate::index_for::index_for;
+use crate::index_told::line_of_built;
 use ann_shelf::{Gate, Out, Shelf};
-use annbuild_lines::{BuiltLine, Fault, Line, built_line};
+use annbuild_lines::Fault;
 use annbuild_words::{Request, Role};
 use command_shapes::{read_points_of, store_and_print};
 use graph_rows::Index;
 use std::alloc::Global;
 use std::thread::Threads;
-
-/// The line of a build.
-fn line(index: &Index) -> Line
-    requires { IsWellFormed (contents index.now) }
-    ensures { result.items ≡ line_of (contents index.now) }
-{
-    built_line(BuiltLine {
-        kind: index.kind,
-        count: index.count,
-        dim: index.dim,
-        degree: index.degree,
-        start: index.start,
-        layers: 1 + index.upper.len() as u32,
-        edges: index.edges(),
-    })
-}
 
 /// Reads the points, and builds their index. Nothing is written.
 fn prepared<R: Threads + Sync, F: Shelf, G: Gate + Sync>(
@@ -68,7 +52,7 @@ pub(crate) fn build<R: Threads + Sync, F: Shelf, O: Out, G: Gate + Sync>(
     ensures { Ends (building request.now.names.first.now request.now.names.second.now request.now.settings) (F.shown shelf.old) (F.shown shelf.new) (O.got out.old) (O.got out.new) (fault_in result) }
 {
     let index = prepared(rt, alloc, request, shelf, gate)?;
-    let told = line(&index);
+    let told = line_of_built(&index);
     store_and_print(
         shelf,
         out,

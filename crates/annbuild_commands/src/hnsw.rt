@@ -6,13 +6,11 @@ ghost use Rattle.graph_rows.specs.WellFormed.{IsWellFormed};
 ghost use Rattle.hnsw_build.specs.HnswBuilds.{batches_of};
 ghost use Rattle.hnsw_build.specs.HnswIndex.{hnsw_index};
 ghost use Rattle.hnsw_build.specs.Layering.{words_in};
-ghost use Rattle.command_options.specs.Settings.{IsInRange};
-ghost use Rattle.command_options.specs.declared.verb.Verb.TheVariants as verbs;
 ghost use Rattle.annbuild_lines.specs.declared.fault.Fault.TheVariants.{NoMemory as NoMemoryFault};
 ghost use Rattle.command_options.specs.Forms.{greatest_degree};
 ghost use Rattle.ann_defs.specs.declared.kinds.Kind.TheVariants as kinds;
-ghost use Rattle.annbuild_commands.specs.IndexOf.{hnsw_of, hnsw_settings, hnsw_words};
-ghost use Rattle.annbuild_commands.specs.Building.{words_refusal};
+ghost use Rattle.annbuild_commands.specs.IndexOf.{AreForBuild, hnsw_of, hnsw_settings, hnsw_words};
+ghost use Rattle.annbuild_commands.specs.Limits.{words_refusal};
 
 use crate::limits::{check_words, pool_for};
 use ann_shelf::{Gate, NoMemory};
@@ -108,7 +106,7 @@ pub(crate) fn layered_index<R: Threads + Sync, G: Gate + Sync>(
     options: &Settings,
     gate: &G,
 ) -> Result<Index, Fault>
-    requires range { IsInRange verbs.Build options.now }
+    requires range { AreForBuild options.now }
     requires degree { options.now.degree ≤ greatest_degree kinds.Hnsw }
     ensures fits { OnOk result (words_refusal (hnsw_words (length points.now.vectors) options.now) ≡ None) }
     ensures index { IfOk result (λ i. contents i ≡ hnsw_of points.now.vectors options.now) }

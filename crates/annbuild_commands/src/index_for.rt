@@ -2,13 +2,12 @@
 ghost use Rattle.std.specs.Prelude.{◌≡◌, ◌⊎◌, Some, None, length, IfOk, IfErr, OnOk};
 ghost use Rattle.graph_rows.specs.View.{contents};
 ghost use Rattle.graph_rows.specs.WellFormed.{IsWellFormed};
-ghost use Rattle.command_options.specs.Settings.{IsInRange};
-ghost use Rattle.command_options.specs.declared.verb.Verb.TheVariants as verbs;
 ghost use Rattle.annbuild_lines.specs.declared.fault.Fault.TheVariants.{NoMemory};
-ghost use Rattle.annbuild_commands.specs.IndexOf.{index_of, words_of};
-ghost use Rattle.annbuild_commands.specs.Building.{words_refusal};
+ghost use Rattle.annbuild_commands.specs.IndexOf.{AreForBuild, index_of, words_of};
+ghost use Rattle.annbuild_commands.specs.Limits.{words_refusal};
 
 use crate::hnsw::layered_index;
+use crate::nnd::listed_index;
 use crate::vamana::vamana_index;
 use ann_defs::Kind;
 use ann_shelf::Gate;
@@ -28,16 +27,15 @@ pub(crate) fn index_for<R: Threads + Sync, G: Gate + Sync>(
     options: &Settings,
     gate: &G,
 ) -> Result<Index, Fault>
-    requires { IsInRange verbs.Build options.now }
+    requires { AreForBuild options.now }
     ensures fits { OnOk result (words_refusal (words_of (length points.now.vectors) options.now) ≡ None) }
     ensures index { IfOk result (λ i. contents i ≡ index_of points.now.vectors options.now) }
     ensures well_formed { IfOk result (λ i. IsWellFormed (contents i)) }
     ensures failed { IfErr result (λ fault. (words_refusal (words_of (length points.now.vectors) options.now) ≡ Some fault) ⊎ (fault ≡ NoMemory)) }
 {
     match options.kind {
-        Kind::Hnsw => layered_index(rt, alloc, points, options, gate),
         Kind::Vamana => vamana_index(rt, alloc, points, options, gate),
-        // The words ask for no such index yet.
-        Kind::Nnd => vamana_index(rt, alloc, points, options, gate),
+        Kind::Hnsw => layered_index(rt, alloc, points, options, gate),
+        Kind::Nnd => listed_index(rt, alloc, points, options, gate),
     }
 }

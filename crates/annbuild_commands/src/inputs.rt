@@ -1,4 +1,4 @@
-//! The files of a `query`, read and held against each other.
+//! The files of a `query` and of a `check`, read and held against each other.
 ghost use Rattle.std.specs.Prelude.{◌≡◌, Some, None, IfOk, IfErr, IfSome, OnOk, length};
 ghost use Rattle.ann_defs.specs.Distance.{dim_of};
 ghost use Rattle.ann_shelf.specs.Files.{Files, bytes_of};
@@ -9,7 +9,8 @@ ghost use Rattle.ann_shelf.specs.Written.{Got};
 ghost use Rattle.command_shapes.specs.Doing.{Doing};
 ghost use Rattle.command_shapes.specs.Ends.{Ends, HaveRead, OnlyRead};
 ghost use Rattle.command_shapes.specs.Reading.{AreOf, IsOf};
-ghost use Rattle.annbuild_commands.specs.Querying.{querying, unfit_in};
+ghost use Rattle.annbuild_commands.specs.Fitting.{index_unfit, unfit_in};
+ghost use Rattle.annbuild_commands.specs.Querying.{querying};
 
 use ann_shelf::Shelf;
 use annbuild_lines::{Fault, What};
@@ -27,9 +28,9 @@ pub(crate) struct Inputs {
     pub queries: Points,
 }
 
-/// The first numbers of the three that don't fit together.
-fn unfit(points: &Points, index: &Index, queries: &Points) -> Option<Fault>
-    ensures { result ≡ unfit_in points.now.vectors (contents index.now) queries.now.vectors }
+/// The first number of an index that doesn't fit the points.
+pub(crate) fn unfit_index(points: &Points, index: &Index) -> Option<Fault>
+    ensures { result ≡ index_unfit points.now.vectors (contents index.now) }
 {
     if index.count != points.count() {
         return Some(Fault::Unfit {
@@ -46,6 +47,16 @@ fn unfit(points: &Points, index: &Index, queries: &Points) -> Option<Fault>
             found: u64::from(index.dim),
             wanted: u64::from(points.dim()),
         });
+    }
+    None
+}
+
+/// The first numbers of the three that don't fit together.
+fn unfit(points: &Points, index: &Index, queries: &Points) -> Option<Fault>
+    ensures { result ≡ unfit_in points.now.vectors (contents index.now) queries.now.vectors }
+{
+    if let Some(fault) = unfit_index(points, index) {
+        return Some(fault);
     }
     if queries.dim() != points.dim() {
         return Some(Fault::Unfit {

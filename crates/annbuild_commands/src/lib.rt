@@ -8,15 +8,22 @@
 
 mod build;
 mod carried;
+mod check;
 mod hnsw;
 mod index_for;
+mod index_told;
 mod inputs;
 mod limits;
+mod made;
+mod make;
+mod nnd;
 mod plain;
 mod query;
 mod request;
+mod summed;
 mod told;
 mod top;
+mod trial;
 mod vamana;
 
 pub use annbuild_lines::{Fault, Rule, Status, What};

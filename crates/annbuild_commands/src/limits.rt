@@ -1,14 +1,26 @@
-//! The pool of a command, and the words that it may take.
-ghost use Rattle.std.specs.Prelude.{◌≡◌, ◌<◌, ◌≤◌, Some, None, IfErr, OnOk};
-ghost use Rattle.ann_defs.specs.declared.limits.TheConstants.{MAX_WORKERS};
+//! The pool of a command, and the limits of what settings ask for.
+ghost use Rattle.std.specs.Prelude.{◌≡◌, ◌*◌, ◌<◌, ◌≤◌, Some, None, IfErr, OnOk};
+ghost use Rattle.ann_defs.specs.declared.limits.TheConstants.{MAX_CELLS, MAX_WORDS, MAX_WORKERS};
 ghost use Rattle.steal_pool.specs.Pools.{pool_workers};
-ghost use Rattle.annbuild_commands.specs.Building.{words_refusal};
+ghost use Rattle.annbuild_commands.specs.Limits.{limit_refusal, words_refusal, cells_refusal};
 
-use ann_defs::MAX_WORDS;
+use ann_defs::{MAX_CELLS, MAX_WORDS};
 use ann_shelf::Quantity;
 use annbuild_lines::Fault;
 use annbuild_words::Settings;
 use steal_pool::{LEAST_SEARCHES, Pool};
+
+/// Refuses a number over its limit.
+fn check_limit(name: Quantity, value: u64, limit: u64) -> Result<(), Fault>
+    ensures few { OnOk result (value ≤ limit) }
+    ensures ok { OnOk result (limit_refusal name value limit ≡ None) }
+    ensures err { IfErr result (λ fault. limit_refusal name value limit ≡ Some fault) }
+{
+    if value > limit {
+        return Err(Fault::TooLarge { name, value, limit });
+    }
+    Ok(())
+}
 
 /// Refuses more words than the rows of an index may take.
 pub(crate) fn check_words(words: u64) -> Result<(), Fault>
@@ -16,14 +28,20 @@ pub(crate) fn check_words(words: u64) -> Result<(), Fault>
     ensures ok { OnOk result (words_refusal words ≡ None) }
     ensures err { IfErr result (λ fault. words_refusal words ≡ Some fault) }
 {
-    if words > MAX_WORDS {
-        return Err(Fault::TooLarge {
-            name: Quantity::Words,
-            value: words,
-            limit: MAX_WORDS,
-        });
-    }
-    Ok(())
+    check_limit(Quantity::Words, words, MAX_WORDS)
+}
+
+/// Refuses more points, of so many numbers each, than may be.
+pub(crate) fn check_cells(count: u32, dim: u32) -> Result<(), Fault>
+    ensures few { OnOk result (count * dim ≤ MAX_CELLS) }
+    ensures ok { OnOk result (cells_refusal count dim ≡ None) }
+    ensures err { IfErr result (λ fault. cells_refusal count dim ≡ Some fault) }
+{
+    check_limit(
+        Quantity::Cells,
+        u64::from(count) * u64::from(dim),
+        MAX_CELLS,
+    )
 }
 
 /// The pool that settings ask for, where no round has more than `searches` searches.

@@ -8,7 +8,8 @@ ghost use Rattle.command_options.specs.declared.verb.Verb.TheVariants as verbs;
 ghost use Rattle.command_shapes.specs.Ends.{Ends, fault_in};
 ghost use Rattle.command_shapes.specs.Writing.{Printed};
 ghost use Rattle.command_shapes.specs.AnswerLines.{lines_from};
-ghost use Rattle.annbuild_commands.specs.Querying.{querying, unfit_in, all_answers};
+ghost use Rattle.annbuild_commands.specs.Fitting.{unfit_in};
+ghost use Rattle.annbuild_commands.specs.Querying.{querying, all_answers};
 
 use crate::inputs::{Inputs, read_inputs};
 use crate::limits::pool_for;

@@ -4,9 +4,12 @@ ghost use Rattle.command_shapes.specs.Ends.{Ends, fault_in};
 ghost use Rattle.annbuild_commands.specs.Commands.{doing_of};
 
 use crate::build::build;
+use crate::check::check;
+use crate::make::make;
 use crate::query::query;
+use crate::trial::trial;
 use ann_shelf::{Gate, NoMemory, Out, Shelf};
-use annbuild_clap::parse_by_clap;
+use annbuild_clap::{Parsed, parse_by_clap};
 use annbuild_lines::Fault;
 use annbuild_words::{Request, Verb};
 use std::alloc::Global;
@@ -27,26 +30,30 @@ pub(crate) fn answer<R: Threads + Sync, F: Shelf, O: Out, G: Gate + Sync>(
     ensures { Ends (doing_of (command_of request.now)) (F.shown shelf.old) (F.shown shelf.new) (O.got out.old) (O.got out.new) (fault_in result) }
 {
     match parse_by_clap(alloc, request) {
-        Ok(parsed) => done(rt, alloc, &parsed.request(), shelf, out, gate),
+        Ok(parsed) => done(rt, alloc, &parsed, shelf, out, gate),
         Err(NoMemory) => Err(Fault::NoMemory),
     }
 }
 
-/// Does a request by its command.
+/// Does by its command what clap has read.
 fn done<R: Threads + Sync, F: Shelf, O: Out, G: Gate + Sync>(
     rt: &R,
     alloc: Global,
-    request: &Request<'_>,
+    parsed: &Parsed,
     shelf: &mut F,
     out: &mut O,
     gate: &G,
 ) -> Result<(), Fault>
-    requires { IsAllowed (command_of request.now) }
-    ensures { Ends (doing_of (command_of request.now)) (F.shown shelf.old) (F.shown shelf.new) (O.got out.old) (O.got out.new) (fault_in result) }
+    requires { IsAllowed parsed.now }
+    ensures { Ends (doing_of parsed.now) (F.shown shelf.old) (F.shown shelf.new) (O.got out.old) (O.got out.new) (fault_in result) }
 {
+    let request = &parsed.request();
     match request.verb {
         Verb::Build => build(rt, alloc, request, shelf, out, gate),
         Verb::Query => query(rt, alloc, request, shelf, out, gate),
+        Verb::Check => check(alloc, request, shelf, out),
+        Verb::Make => make(alloc, request, shelf, out),
+        Verb::Trial => trial(rt, alloc, &request.settings, out, gate),
         _ => unreachable!(),
     }
 }

@@ -4,11 +4,9 @@ ghost use Rattle.ann_defs.specs.declared.limits.TheConstants.{MAX_WORDS};
 ghost use Rattle.vamana_build.specs.Builds.{batches_of};
 ghost use Rattle.graph_rows.specs.View.{contents};
 ghost use Rattle.graph_rows.specs.WellFormed.{IsWellFormed};
-ghost use Rattle.command_options.specs.Settings.{IsInRange};
-ghost use Rattle.command_options.specs.declared.verb.Verb.TheVariants as verbs;
 ghost use Rattle.annbuild_lines.specs.declared.fault.Fault.TheVariants.{NoMemory as NoMemoryFault};
-ghost use Rattle.annbuild_commands.specs.IndexOf.{vamana_of, vamana_words};
-ghost use Rattle.annbuild_commands.specs.Building.{words_refusal};
+ghost use Rattle.annbuild_commands.specs.IndexOf.{AreForBuild, vamana_of, vamana_words};
+ghost use Rattle.annbuild_commands.specs.Limits.{words_refusal};
 
 use crate::limits::{check_words, pool_for};
 use ann_defs::{Alpha, MAX_WORDS};
@@ -24,7 +22,7 @@ use vamana_build::{Plan, Vamana, VamanaSettings};
 
 /// The settings of the builder.
 fn settings_of(options: &Settings) -> VamanaSettings
-    requires { IsInRange verbs.Build options.now }
+    requires { AreForBuild options.now }
     ensures order { result.order ≡ options.now.order }
     ensures start { result.start ≡ options.now.start }
     ensures seed { result.seed ≡ options.now.seed }
@@ -74,7 +72,7 @@ fn index_on<R: Threads + Sync, P: Rounds, G: Gate + Sync>(
     pool: &mut P,
     gate: &G,
 ) -> Result<Index, NoMemory>
-    requires options { IsInRange verbs.Build options.now }
+    requires options { AreForBuild options.now }
     requires words { vamana_words (length points.now.vectors) options.now ≤ MAX_WORDS }
     requires workers { (1 ≤ P.count pool.old) × (P.count pool.old ≤ 64) }
     ensures index { IfOk result (λ i. contents i ≡ vamana_of points.now.vectors options.now) }
@@ -96,7 +94,7 @@ pub(crate) fn vamana_index<R: Threads + Sync, G: Gate + Sync>(
     options: &Settings,
     gate: &G,
 ) -> Result<Index, Fault>
-    requires { IsInRange verbs.Build options.now }
+    requires { AreForBuild options.now }
     ensures fits { OnOk result (words_refusal (vamana_words (length points.now.vectors) options.now) ≡ None) }
     ensures index { IfOk result (λ i. contents i ≡ vamana_of points.now.vectors options.now) }
     ensures well_formed { IfOk result (λ i. IsWellFormed (contents i)) }

@@ -21,13 +21,29 @@ use Rattle.annbuild_lines.specs.declared.fault.What.{What}
 use Rattle.annbuild_lines.specs.declared.fault.What.TheVariants as whats
 use Rattle.annbuild_lines.specs.declared.fault.Fault.{Fault}
 use Rattle.annbuild_lines.specs.declared.fault.Fault.TheVariants.{Usage, Setting, Read, Malformed, Unfit, Write, NoMemory, TooLarge}
-use Rattle.annbuild_lines.specs.declared.line.BuiltLine.{BuiltLine}
+use Rattle.annbuild_lines.specs.declared.index_lines.BuiltLine.{BuiltLine}
+
+-- what a line tells of an index
+abbrev pub index_told : BuiltLine → List ℕ
+index_told t =
+    kind_name t.kind ++ (codes " count " ++ decimal t.count) ++ (codes " dim " ++ decimal t.dim) ++ (codes " degree " ++ decimal t.degree)
+    ++ (codes " start " ++ decimal t.start) ++ (codes " layers " ++ decimal t.layers) ++ (codes " edges " ++ decimal t.edges)
 
 -- the line of a build
 abbrev pub built_text : BuiltLine → List ℕ
-built_text t =
-    codes "built " ++ kind_name t.kind ++ (codes " count " ++ decimal t.count) ++ (codes " dim " ++ decimal t.dim) ++ (codes " degree " ++ decimal t.degree)
-    ++ (codes " start " ++ decimal t.start) ++ (codes " layers " ++ decimal t.layers) ++ (codes " edges " ++ decimal t.edges) ++ codes "\n"
+built_text t = codes "built " ++ index_told t ++ codes "\n"
+
+-- the line of an index that was checked: the same, and the length of its longest row
+abbrev pub checked_text : BuiltLine → (longest : ℕ) → List ℕ
+checked_text t longest = codes "ok " ++ index_told t ++ (codes " longest " ++ decimal longest) ++ codes "\n"
+
+-- the line of made points
+abbrev pub made_text : (count dim : ℕ) → List ℕ
+made_text count dim = codes "made" ++ (codes " count " ++ decimal count) ++ (codes " dim " ++ decimal dim) ++ codes "\n"
+
+-- the line of all answers of a trial: how many queries and answers there are, and the sum of the answers' squared distances
+abbrev pub answered_text : (queries answers total : ℕ) → List ℕ
+answered_text queries answers total = codes "queries " ++ decimal queries ++ (codes " answers " ++ decimal answers) ++ (codes " total " ++ decimal total) ++ codes "\n"
 
 -- an answer of a query: an id and its squared distance
 abbrev pub answer_text : Near → List ℕ

@@ -4,15 +4,19 @@
 //! making one takes no memory.
 #![tactic(auto)]
 
+mod count_lines;
 mod fault;
 mod fault_lines;
+mod index_lines;
 mod line;
 mod names;
 mod query_line;
 mod rules;
 
+pub use count_lines::{answered_line, made_line};
 pub use fault::{Fault, Rule, Status, What};
 pub use fault_lines::fault_line;
-pub use line::{BuiltLine, Line, built_line};
+pub use index_lines::{BuiltLine, built_line, checked_line};
+pub use line::Line;
 pub use query_line::{push_query_line, query_line_bytes};
 pub use rules::{GoneRule, LabelRule};

@@ -1,11 +1,8 @@
-//! Printed lines, made without memory, and the line of a build.
-ghost use Rattle.std.specs.Prelude.{◌≡◌, ◌+◌, ◌<◌, ◌≤◌, ◌++◌, [], length, codes, decimal};
-ghost use Rattle.annbuild_lines.specs.Lines.{built_text};
+//! Printed lines, made without memory: texts and numbers are added to them.
+ghost use Rattle.std.specs.Prelude.{◌≡◌, ◌+◌, ◌<◌, ◌≤◌, ◌++◌, length, codes, decimal};
 ghost use Rattle.arrayvec.specs.ArrayVec.{array_vec_len};
 
-use ann_defs::Kind;
 use arrayvec::ArrayVec;
-use command_options::kind_text;
 
 /// One printed line, in at most 256 bytes.
 pub type Line = ArrayVec<u8, 256>;
@@ -44,42 +41,13 @@ pub fn push_number(line: &mut Line, n: u64)
     push_digits(line, n);
 }
 
-/// What the line of a build tells.
-#[derive(Clone, Copy, Debug)]
-pub struct BuiltLine {
-    pub kind: Kind,
-    pub count: u32,
-    pub dim: u32,
-    pub degree: u32,
-    pub start: u32,
-    pub layers: u32,
-    pub edges: u64,
-}
-
 /// Adds a name and a number.
-fn push_field(line: &mut Line, name: &str, n: u64)
-    requires room { array_vec_len line.old + 28 ≤ 256 }
-    requires name { length name.now ≤ 8 }
+pub fn push_field(line: &mut Line, name: &str, n: u64)
+    requires room { array_vec_len line.old + 29 ≤ 256 }
+    requires name { length name.now ≤ 9 }
     ensures items { line.new.items ≡ line.old.items ++ (name.now ++ decimal n) }
-    ensures len { array_vec_len line.new ≤ array_vec_len line.old + 28 }
+    ensures len { array_vec_len line.new ≤ array_vec_len line.old + 29 }
 {
     push_text(line, name);
     push_number(line, n);
-}
-
-/// The line of a build: `built KIND count N dim D degree R start S layers L edges E`.
-pub fn built_line(told: BuiltLine) -> Line
-    ensures { result.items ≡ built_text told }
-{
-    let mut line = ArrayVec::new();
-    push_text(&mut line, "built ");
-    push_text(&mut line, kind_text(told.kind));
-    push_field(&mut line, " count ", u64::from(told.count));
-    push_field(&mut line, " dim ", u64::from(told.dim));
-    push_field(&mut line, " degree ", u64::from(told.degree));
-    push_field(&mut line, " start ", u64::from(told.start));
-    push_field(&mut line, " layers ", u64::from(told.layers));
-    push_field(&mut line, " edges ", told.edges);
-    push_text(&mut line, "\n");
-    line
 }

@@ -70,9 +70,11 @@ has_option_of_any verb option = has_option verb Vamana option || has_option verb
 
 -- the commands and kinds that the program has today; others mean no request
 abbrev pub is_built : Verb → Kind → Bool
-is_built verbs.Build Vamana = true
-is_built verbs.Build Hnsw = true
+is_built verbs.Build kind = true
 is_built verbs.Query kind = true
+is_built verbs.Check kind = true
+is_built verbs.Make kind = true
+is_built verbs.Trial kind = true
 is_built verb kind = false
 
 -- the same of options

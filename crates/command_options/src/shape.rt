@@ -175,9 +175,8 @@ pub fn has_option_of_any(verb: Verb, option: OptionName) -> bool
 pub fn is_built(verb: Verb, kind: Kind) -> bool
     ensures { result ≡ is_built verb kind }
 {
-    match verb {
-        Verb::Build => matches!(kind, Kind::Vamana | Kind::Hnsw),
-        Verb::Query => true,
+    match (verb, kind) {
+        (Verb::Build | Verb::Trial | Verb::Query | Verb::Check | Verb::Make, _) => true,
         _ => false,
     }
 }

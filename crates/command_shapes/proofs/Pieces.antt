@@ -138,6 +138,12 @@ failed_printing ps qs rs had mid got fault some a b = record {
   wants = no_fall had.wants mid.wants got.wants a.wants b.wants;
 }
 
+-- pieces and then more of them, with a fault or without
+pub then_pieces : (ps qs : List (List ℕ)) (had mid got : Got) (fault : Option Fault) → 1 ≤ length qs → Printed ps had mid None → Printed qs mid got fault → Printed (ps ++ qs) had got fault
+then_pieces ps qs had mid got None some a b = both_printed ps qs had mid got a b
+then_pieces ps qs had mid got (Some fault) some a b =
+    subst (λ rs. Printed (ps ++ rs) had got (Some fault)) (append-nil qs) (failed_printing ps qs [] had mid got fault some a b)
+
 -- want of memory before anything of these pieces is printed
 pub no_memory_printing : (pieces : List (List ℕ)) (had : Got) → Printed pieces had had (Some NoMemory)
 no_memory_printing pieces had = record {

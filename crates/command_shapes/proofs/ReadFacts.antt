@@ -11,7 +11,8 @@ use Rattle.command_shapes.specs.Clauses.{IsReached, IsReadOf}
 use Rattle.command_shapes.specs.Ends.{OnlyRead, HaveRead}
 use Rattle.command_shapes.proofs.Told.{told_here}
 
-or_none : (u v : Option Fault) → option_or u v ≡ None → (u ≡ None) × (v ≡ None)
+-- neither of two refusals
+pub or_none : (u v : Option Fault) → option_or u v ≡ None → (u ≡ None) × (v ≡ None)
 or_none None v e = (refl, e)
 or_none (Some f) v e = cc
 

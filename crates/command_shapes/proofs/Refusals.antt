@@ -1,11 +1,13 @@
 -- The first refusal that a file shows, from what is found in it.
-use Rattle.std.proofs.Common.{◌≡◌, List, [], ◌∷◌, ℕ, refl, ap, Some, None}
+use Rattle.std.proofs.Common.{◌≡◌, ◌∙◌, subst, List, [], ◌∷◌, ℕ, refl, ap, Some, None}
 use Rattle.std.specs.Prelude.{Result, Ok, Err}
 use Rattle.std.specs.Option.{option_map, option_or}
 use Rattle.ann_shelf.specs.Files.{Files}
+use Rattle.ann_defs.specs.Distance.{PointSet}
 use Rattle.bin_files.specs.declared.fault.PointsFault.{PointsFault}
 use Rattle.bin_files.specs.declared.fault.PointsFault.TheVariants.{Read as PointsRead, Malformed as BrokenPoints, TooLarge as LargePoints, NoMemory as NoPointsMemory}
-use Rattle.bin_files.specs.Points.{verdict}
+use Rattle.bin_files.specs.Points.{text, verdict}
+use Rattle.bin_files.specs.Rows.{ArePoints}
 use Rattle.bin_files.specs.Read.{IsFaultOf}
 use Rattle.graph_files.specs.declared.fault.IndexFault.{IndexFault}
 use Rattle.graph_files.specs.declared.fault.IndexFault.TheVariants.{Read as IndexRead, Malformed as BrokenIndex, TooLarge as LargeIndex, NoMemory as NoIndexMemory}
@@ -14,7 +16,7 @@ use Rattle.graph_files.specs.Reading.{Fails}
 use Rattle.graph_files.specs.Grammar.{index_in, verdict as index_verdict}
 use Rattle.command_options.specs.declared.role.Role.{Role}
 use Rattle.command_shapes.specs.Faults.{points_fault_of, index_fault_of, points_refusal, index_refusal}
-use Rattle.command_shapes.specs.Reading.{IsOfReading, IsReadFault}
+use Rattle.command_shapes.specs.Reading.{AreOf, IsPointsText, IsOfReading, IsReadFault}
 use Rattle.command_shapes.specs.Doing.{Reads, first_refused}
 
 -- of a file of points
@@ -47,6 +49,10 @@ index_reading role file IndexRead h = refl
 index_reading role file (BrokenIndex place rule) h = index_refused role file (BrokenIndex place rule) h
 index_reading role file (LargeIndex name value limit) h = index_refused role file (LargeIndex name value limit) h
 index_reading role file NoIndexMemory h = tt
+
+-- the file that points were read from is their text
+pub points_text : (role : Role) (file : List ℕ) (X : PointSet) → AreOf role file X → IsPointsText file
+points_text role file X of = (subst (λ (Y : PointSet). ArePoints Y.vectors) of.points_are of.limits, of.text_is ∙ ap text of.points_are)
 
 -- one read alone
 pub alone : (r : Reads) (files : Files) → r.refused files ≡ None → first_refused (r ∷ []) files ≡ None

@@ -1,4 +1,4 @@
-//! Printing a piece.
+//! Printing one piece or two.
 ghost use Rattle.std.specs.Prelude.{◌≡◌, [], ◌∷◌, IsErrOf};
 ghost use Rattle.ann_shelf.specs.Faults.{Rose};
 ghost use Rattle.command_shapes.specs.Ends.{fault_in};
@@ -18,4 +18,12 @@ pub fn print<O: Out>(out: &mut O, piece: &[u8]) -> Result<(), Fault>
         Ok(()) => Ok(()),
         Err(slip) => Err(write_fault(Role::Output, slip)),
     }
+}
+
+/// Prints two pieces, one after the other, and takes no memory of its own.
+pub fn print_both<O: Out>(out: &mut O, first: &[u8], second: &[u8]) -> Result<(), Fault>
+    ensures { Printed (first.now ∷ second.now ∷ []) (O.got out.old) (O.got out.new) (fault_in result) }
+{
+    print(out, first)?;
+    print(out, second)
 }

@@ -5,7 +5,7 @@ ghost use Rattle.std.specs.List.{range_with_len};
 ghost use Rattle.seeded_order.specs.Generator.{generated_byte, made_points_of};
 
 use crate::words::words_from;
-use ann_defs::{MAX_CELLS, MAX_DIM, MAX_POINTS};
+use ann_defs::{Element, MAX_CELLS, MAX_DIM, MAX_POINTS};
 use ann_shelf::NoMemory;
 use bin_files::Points;
 use rand_core::utils::NextWord;
@@ -53,7 +53,8 @@ pub fn made_points(
     requires dim { (1 ≤ dim) × (dim ≤ MAX_DIM) }
     requires cells { count * dim ≤ MAX_CELLS }
     requires first { first ≤ MAX_CELLS }
-    ensures { IfOk result (λ p. p.vectors ≡ made_points_of count dim seed first) }
+    ensures vectors { IfOk result (λ p. p.vectors ≡ made_points_of count dim seed first) }
+    ensures element { IfOk result (λ p. p.element ≡ Element.U8) }
 {
     let len = u64::from(count) * u64::from(dim);
     let bytes = made_bytes(alloc, len, seed, first)?;

@@ -3,7 +3,8 @@
 use ann_defs::{Kind, Near};
 use ann_shelf::Quantity;
 use annbuild_lines::{
-    BuiltLine, Fault, Rule, What, built_line, fault_line, push_query_line, query_line_bytes,
+    BuiltLine, Fault, Rule, What, answered_line, built_line, checked_line, fault_line, made_line,
+    push_query_line, query_line_bytes,
 };
 use bin_files::PointsRule;
 use command_options::{Role, SettingName};
@@ -23,6 +24,22 @@ fn worked_build(rt: HostRuntime) {
     assert_eq!(rt;
         built_line(told).as_slice(),
         b"built vamana count 4 dim 1 degree 2 start 0 layers 1 edges 5\n".as_slice()
+    );
+    assert_eq!(rt;
+        checked_line(told, 2).as_slice(),
+        b"ok vamana count 4 dim 1 degree 2 start 0 layers 1 edges 5 longest 2\n".as_slice()
+    );
+}
+
+#[test]
+fn worked_counts(rt: HostRuntime) {
+    assert_eq!(rt;
+        made_line(3, 5).as_slice(),
+        b"made count 3 dim 5\n".as_slice()
+    );
+    assert_eq!(rt;
+        answered_line(100, 1000, 57_220_337).as_slice(),
+        b"queries 100 answers 1000 total 57220337\n".as_slice()
     );
 }
 

@@ -54,6 +54,26 @@ fn worked_words(rt: HostRuntime) -> Result<(), Fail> {
         ("build a b --pool threads", Want::Nothing),
         ("grow a b", Want::Nothing),
         ("--degree 2 build a b", Want::Nothing),
+        ("check a", Want::Nothing),
+        ("check a b --workers 2", Want::Nothing),
+        ("make a b", Want::Nothing),
+        ("make a --kind hnsw", Want::Nothing),
+        ("trial a", Want::Nothing),
+        ("trial --kind hnsw --start medoid", Want::Nothing),
+        ("check a b", Want::Accepted(Verb::Check)),
+        (
+            "make a --count 3 --dim=5 --seed 7",
+            Want::Accepted(Verb::Make),
+        ),
+        ("trial", Want::Accepted(Verb::Trial)),
+        (
+            "trial --kind hnsw --bits 4 --k 5",
+            Want::Accepted(Verb::Trial),
+        ),
+        (
+            "trial --queries 0",
+            Want::Outside(SettingName::QueryCount, 0, 1, 4096),
+        ),
         ("build a b --degree=2", Want::Accepted(Verb::Build)),
         (
             "build --order=file a --start first b --degree 002",
@@ -112,6 +132,33 @@ fn worked_words(rt: HostRuntime) -> Result<(), Fail> {
             "build --max-level=0 a --bits 8 b --degree 64 --order file --cap 1 --beam 1024 --kind=hnsw",
             Want::Accepted(Verb::Build),
         ),
+        (
+            "build a b --kind nnd --list 40 --trees 64 --leaf 1024 --rounds 0 --floor 18446744073709551615",
+            Want::Accepted(Verb::Build),
+        ),
+        (
+            "trial --kind nnd --start medoid --alpha 1/1",
+            Want::Accepted(Verb::Trial),
+        ),
+        ("build a b --kind nnd --order file", Want::Nothing),
+        ("build a b --kind nnd --beam 4", Want::Nothing),
+        ("build a b --kind hnsw --list 4", Want::Nothing),
+        (
+            "build a b --kind nnd --list 129 --trees 65",
+            Want::Outside(SettingName::List, 129, 1, 128),
+        ),
+        (
+            "build a b --kind nnd --leaf 1",
+            Want::Outside(SettingName::Leaf, 1, 2, 1024),
+        ),
+        (
+            "build a b --kind nnd --trees 0",
+            Want::Outside(SettingName::Trees, 0, 1, 64),
+        ),
+        (
+            "build a b --kind nnd --rounds 65",
+            Want::Outside(SettingName::RoundCount, 65, 0, 64),
+        ),
         ("build a b --alpha 1/1", Want::Accepted(Verb::Build)),
         ("build a b --alpha 1000/1", Want::Accepted(Verb::Build)),
         (
@@ -160,8 +207,8 @@ fn worked_words(rt: HostRuntime) -> Result<(), Fail> {
 #[test]
 fn what_the_program_does_not_have_is_no_request(rt: HostRuntime) -> Result<(), Fail> {
     let rows = [
-        "build a b --kind nnd",
-        "build a b --kind nnd --list 40",
+        "build a b --kind nnd --format 1",
+        "build a b --kind nnd --passes 1",
         "build a b --kind hnsw --format 1",
         "build a b --kind hnsw --type u8",
         "build a b --passes 1",
@@ -169,9 +216,8 @@ fn what_the_program_does_not_have_is_no_request(rt: HostRuntime) -> Result<(), F
         "build a b --type u8",
         "query a b c --type u8",
         "query a b c --label 0",
-        "check a b",
-        "make a",
-        "trial",
+        "trial --kind nnd --type u8",
+        "check a b --type u8",
         "live a b c",
         "exact a b",
         "recall a b c",

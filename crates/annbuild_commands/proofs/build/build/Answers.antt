@@ -21,5 +21,5 @@ returns g c =
     after_reading (building c.args.request.now.names.first.now c.args.request.now.names.second.now c.args.request.now.settings) (Some (stored_as Index c.args.request.now.names.second.now (text_of i))) (λ run. true) (λ run. c.as_slice.result.now ∷ [])
     (g.F.Shelf.shown c.args.shelf.now) (g.F.Shelf.shown c.prepared.new.shelf) (g.F.Shelf.shown c.store_and_print.new.shelf) (g.O.Out.got c.args.out.now) (g.O.Out.got c.store_and_print.new.out) (fault_in c.store_and_print.result)
     (told_then (g.F.Shelf.shown c.args.shelf.now).held c.in_ok-index.ensures.index (λ files is.
-    build_leads files c.args.request.now.names.first.now c.args.request.now.names.second.now c.args.request.now.settings i (text_of i) c.as_slice.result.now is (file_is i) (c.as_slice.ensures.value ∙ c.line-told.ensures)))
+    build_leads files c.args.request.now.names.first.now c.args.request.now.names.second.now c.args.request.now.settings i (text_of i) c.as_slice.result.now is (file_is i) (c.as_slice.ensures.value ∙ c.line_of_built-told.ensures)))
     c.in_ok-index.ensures.read.only (λ rose role h. h) c.store_and_print.ensures

@@ -2,7 +2,7 @@ use Rattle.std.proofs.Common.{◌≡◌, ◌∙◌}
 use Rattle.std.proofs.lemmas.Result.{IfOk-weaker}
 use Rattle.ann_defs.specs.declared.kinds.Kind.TheVariants.{Vamana, Hnsw, Nnd}
 use Rattle.graph_rows.specs.View.{contents}
-use Rattle.annbuild_commands.specs.IndexOf.{vamana_of, hnsw_of, index_of}
+use Rattle.annbuild_commands.specs.IndexOf.{vamana_of, hnsw_of, nnd_of, index_of}
 use Rattle.annbuild_commands.proofs.IndexFacts.{index_is}
 use Rattle.annbuild_commands.proofs.index_for.index_for.Goals as goal
 
@@ -22,4 +22,4 @@ pub returns-in-Nnd-clause-index : goal.returns-in-Nnd-clause-index
 returns-in-Nnd-clause-index g c =
     let X = c.args.points.now.vectors in
     let o = c.args.options.now in
-    IfOk-weaker c.vamana_index-in-Nnd.result (λ i. contents i ≡ vamana_of X o) (λ i. contents i ≡ index_of X o) (λ i is. is ∙ index_is X o Nnd c.in-Nnd.is) c.vamana_index-in-Nnd.ensures.index
+    IfOk-weaker c.listed_index.result (λ i. contents i ≡ nnd_of X o) (λ i. contents i ≡ index_of X o) (λ i is. is ∙ index_is X o Nnd c.in-Nnd.is) c.listed_index.ensures.index

@@ -1,4 +1,4 @@
-use Rattle.std.proofs.Common.{rules, ◌∙◌, sym, subst, refl}
+use Rattle.std.proofs.Common.{rules, sym, subst, refl}
 use Rattle.annbuild_words.specs.Asked.{command_of, IsAllowed}
 use Rattle.command_shapes.specs.Ends.{Ends, fault_in}
 use Rattle.command_shapes.proofs.Ending.{fails_memory}
@@ -9,7 +9,7 @@ pub returns-in-Err : goal.returns-in-Err
 returns-in-Err g c = fails_memory (doing_of (command_of c.args.request.now)) (g.F.Shelf.shown c.args.shelf.now) (g.F.Shelf.shown c.args.shelf.now) (g.O.Out.got c.args.out.now) refl
 
 pub returns-in-Ok : goal.returns-in-Ok
-returns-in-Ok g c = subst (λ m. Ends (doing_of m) (g.F.Shelf.shown c.args.shelf.now) (g.F.Shelf.shown c.done.new.shelf) (g.O.Out.got c.args.out.now) (g.O.Out.got c.done.new.out) (fault_in c.done.result)) (c.request.ensures ∙ c.in-Ok.ensures) c.done.ensures
+returns-in-Ok g c = subst (λ m. Ends (doing_of m) (g.F.Shelf.shown c.args.shelf.now) (g.F.Shelf.shown c.done.new.shelf) (g.O.Out.got c.args.out.now) (g.O.Out.got c.done.new.out) (fault_in c.done.result)) c.in-Ok.ensures c.done.ensures
 
 pub done-requires : goal.done-requires
-done-requires g c = let h = subst IsAllowed (sym (c.request.ensures ∙ c.in-Ok.ensures)) c.requires in search rules
+done-requires g c = let h = subst IsAllowed (sym c.in-Ok.ensures) c.requires in search rules

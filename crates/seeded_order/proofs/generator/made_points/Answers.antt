@@ -16,8 +16,8 @@ product_div len count dim e some = ap (λ (x : ℕ). x / dim) (e ∙ sym (add-ze
 pub from_bytes-requires-clause-whole : goal.from_bytes-requires-clause-whole
 from_bytes-requires-clause-whole c = product_mod (vec_len c.in_ok-bytes.bytes) c.args.count c.args.dim (c.in_ok-bytes.ensures.len ∙ (λ i. c.from.ensures i * c.from-2.ensures i)) c.requires.dim.0
 
-pub returns : goal.returns
-returns c =
+pub returns-clause-vectors : goal.returns-clause-vectors
+returns-clause-vectors c =
     let product : c.from.result * c.from-2.result ≡ c.args.count * c.args.dim = λ i. c.from.ensures i * c.from-2.ensures i in
     let count = product_div (vec_len c.in_ok-bytes.bytes) c.args.count c.args.dim (c.in_ok-bytes.ensures.len ∙ product) c.requires.dim.0 in
     let bytes = c.in_ok-bytes.ensures.bytes ∙ ap (λ (n : ℕ). map (generated_byte c.args.seed) (range_with_len c.args.first n)) product in
