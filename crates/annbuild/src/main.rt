@@ -2,11 +2,14 @@
 //! streams to the top call, and ends with its code.
 #![tactic(auto)]
 
+mod progress;
+
 ghost use Rattle.std.specs.Prelude.{◌≡◌};
 ghost use Rattle.std.specs.Process.{exit_status};
 
-use ann_shelf::{DirShelf, FreeGate, NoMemory, StdOut, write_all};
+use ann_shelf::{DirShelf, NoMemory, StdOut, write_all};
 use annbuild_commands::annbuild;
+use progress::{Behind, Progress};
 use std::alloc::Global;
 use std::env;
 use std::env::Env;
@@ -50,10 +53,19 @@ fn main(rt: HostRuntime) -> ExitCode {
         let _ = write_all(&mut err, NO_MEMORY_LINE);
         return exit_of(NO_MEMORY);
     };
+    let progress = Progress::begin(&rt, &rt.stderr());
     let mut shelf = DirShelf::new(&rt, alloc, ".");
-    let mut out = StdOut::out(&rt);
+    let mut out = Behind {
+        progress: &progress,
+        out: StdOut::out(&rt),
+    };
+    let mut err = Behind {
+        progress: &progress,
+        out: err,
+    };
     let status = annbuild(
-        &rt, alloc, &words, &mut shelf, &mut out, &mut err, &FreeGate,
+        &rt, alloc, &words, &mut shelf, &mut out, &mut err, &progress,
     );
+    progress.clear();
     exit_of(status.code)
 }
