@@ -109,7 +109,7 @@ fn broken_indexes_are_refused_by_name_and_place(rt: HostRuntime) {
     let cases: [(usize, u8, &[u8]); 8] = [
         (0, 81, b"annbuild: index is malformed at byte 0: magic\n"),
         (4, 2, b"annbuild: index is malformed at byte 4: version\n"),
-        (8, 3, b"annbuild: index is malformed at byte 8: kind\n"),
+        (8, 4, b"annbuild: index is malformed at byte 8: kind\n"),
         (24, 4, b"annbuild: index is malformed at byte 24: start\n"),
         (40, 3, b"annbuild: index is malformed at byte 40: degree\n"),
         (
