@@ -1,7 +1,7 @@
 -- Members of lists, and lists that have each once.
-use Rattle.std.proofs.Common.{◌≡◌, ℕ, zero, suc, ◌+◌, ◌<◌, ◌≤◌, Bool, true, false, cond, List, [], ◌∷◌, ◌++◌, map, refl, sym, ap, ◌∙◌, inl, inr, arith}
+use Rattle.std.proofs.Common.{◌≡◌, ℕ, zero, suc, ◌+◌, ◌<◌, ◌≤◌, Bool, true, false, cond, List, [], ◌∷◌, ◌++◌, map, refl, sym, ap, ◌∙◌, subst, inl, inr, arith}
 use Rattle.std.specs.Prelude.{◌==◌, ◌||◌, ◌&&◌, ◌⊎◌, nat_eq}
-use Rattle.std.specs.List.{filter, All, AllByRecursion, IsDistinct, range_with_len}
+use Rattle.std.specs.List.{filter, flat_map, All, AllByRecursion, IsDistinct, range_with_len}
 use Rattle.std.proofs.lemmas.Bool.{eqb-true, eqb-false, eq-eqb, or_cases, ne_eqb}
 use Rattle.std.proofs.lemmas.List.Elements.{All-nil, All-cons}
 use Rattle.ann_defs.specs.Graph.{has}
@@ -30,6 +30,28 @@ append-has (x ∷ xs) ys z h =
       | inl m ↦ elim m as (λ _. (x ≡ z) ⊎ Has (xs ++ ys) z) [ inl e ↦ inl e | inr k ↦ inr (append-has xs ys z (inl k)) ]
       | inr k ↦ inr (append-has xs ys z (inr k))
     ]
+
+pub has-flat : {J K : Type 0} (f : J → List K) (xs : List J) (z : K) → Has (flat_map f xs) z → (x : J) × Has xs x × Has (f x) z
+has-flat f [] z h = absurd h
+has-flat {J} f (x ∷ xs) z h =
+    elim (has-append (f x) (flat_map f xs) z h) as (λ _. (y : J) × ((x ≡ y) ⊎ Has xs y) × Has (f y) z) [
+      | inl m ↦ (x, inl refl, m)
+      | inr m ↦ let rest = has-flat f xs z m in (rest.0, inr rest.1, rest.2)
+    ]
+
+pub flat-has : {J K : Type 0} (f : J → List K) (xs : List J) (x : J) (z : K) → Has xs x → Has (f x) z → Has (flat_map f xs) z
+flat-has f [] x z h k = absurd h
+flat-has f (y ∷ ys) x z h k =
+    elim h as (λ _. Has (f y ++ flat_map f ys) z) [
+      | inl e ↦ append-has (f y) (flat_map f ys) z (inl (subst (λ w. Has (f w) z) (sym e) k))
+      | inr m ↦ append-has (f y) (flat_map f ys) z (inr (flat-has f ys x z m k))
+    ]
+
+-- two truths that follow from each other
+pub same_bool : (a b : Bool) → (a ≡ true → b ≡ true) → (b ≡ true → a ≡ true) → a ≡ b
+same_bool true b f g = sym (f refl)
+same_bool false true f g = g refl
+same_bool false false f g = refl
 
 pub has-filter : {K : Type 0} (t : K → Bool) (xs : List K) (u : K) → t u ≡ true → Has xs u → Has (filter t xs) u
 has-filter t [] u e h = absurd h

@@ -19,6 +19,7 @@ pub use laws::{
     search_sees_members,
 };
 pub use limits::{
-    MAX_BEAM, MAX_CELLS, MAX_DEGREE, MAX_DIM, MAX_PAIRS, MAX_POINTS, MAX_WORDS, MAX_WORKERS,
+    MAX_ANSWERS, MAX_BEAM, MAX_CALLERS, MAX_CELLS, MAX_DEGREE, MAX_DIM, MAX_PAIRS, MAX_POINTS,
+    MAX_WORDS, MAX_WORKERS,
 };
 pub use near::Near;

@@ -21,5 +21,11 @@ pub const MAX_BEAM: u32 = 1024;
 /// The greatest number of workers.
 pub const MAX_WORKERS: u32 = 64;
 
+/// The greatest number of callers beside a build.
+pub const MAX_CALLERS: u32 = 16;
+
+/// The greatest number of answers that are kept beside a build: queries times answers to each.
+pub const MAX_ANSWERS: u64 = 16777216;
+
 /// The greatest number of reverse edges of a batch: one for each id of each row.
 pub const MAX_PAIRS: u64 = 536870912;

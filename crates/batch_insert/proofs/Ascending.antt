@@ -12,7 +12,7 @@ use Rattle.std.proofs.lemmas.List.Elements.{Contains-get_or}
 use Rattle.ann_defs.specs.Graph.{has}
 use Rattle.ann_defs.specs.Ordered.{Has, Rises, IsBelow, Ascends, ordered}
 use Rattle.ann_defs.proofs.Order.{Rises-fold_put, fold_has, has_fold_new, All_has, below_has, has_from_Contains}
-use Rattle.ann_defs.proofs.Members.{all_from_has, has_true, true_has}
+use Rattle.ann_defs.proofs.Members.{all_from_has, has_true, true_has, same_bool}
 use Rattle.batch_insert.proofs.Grouping.{nat_order}
 
 IsBelow-filter : {K : Type 0} (R : K → K → Ordering) (t : K → Bool) (x : K) (xs : List K) → IsBelow R x xs → IsBelow R x (filter t xs)
@@ -67,12 +67,6 @@ some_ordered (x ∷ xs) h = not_empty (ordered nat_cmp (x ∷ xs)) (has_ordered 
     not_empty : (ys : List ℕ) → Has ys x → 0 < length ys
     not_empty [] m = absurd m
     not_empty (y ∷ ys) m = omega arith
-
-same_bool : (a b : Bool) → (a ≡ true → b ≡ true) → (b ≡ true → a ≡ true) → a ≡ b
-same_bool true true f g = refl
-same_bool true false f g = sym (f refl)
-same_bool false true f g = g refl
-same_bool false false f g = refl
 
 -- it has the same members
 pub has_same : (xs : List ℕ) (u : ℕ) → has (ordered nat_cmp xs) u ≡ has xs u

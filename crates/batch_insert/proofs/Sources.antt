@@ -1,7 +1,7 @@
 -- What is proposed is what the definition's sources are.
-use Rattle.std.proofs.Common.{◌≡◌, ℕ, Bool, true, List, [], ◌∷◌, ◌++◌, refl, sym, ap, ◌∙◌, subst, inl, inr, arith}
-use Rattle.std.specs.Prelude.{◌==◌, ◌⊎◌, ◌&&◌}
-use Rattle.std.specs.List.{range_with_len, flat_map}
+use Rattle.std.proofs.Common.{◌≡◌, ℕ, Bool, true, List, [], ◌∷◌, refl, sym, ap, ◌∙◌, subst, inl, inr, arith}
+use Rattle.std.specs.Prelude.{◌==◌, ◌&&◌}
+use Rattle.std.specs.List.{range_with_len}
 use Rattle.std.specs.declared.cmp.Ordering.TheVariants.{Less, Equal}
 use Rattle.std.specs.Ordering.{nat_cmp, ordering_then}
 use Rattle.std.specs.Cmp.{nat_cmp_is}
@@ -15,7 +15,7 @@ use Rattle.ann_defs.proofs.Order.{Rises-fold_put, same_rising, fold_has, has_fol
 use Rattle.batch_insert.specs.declared.pair.Pair.{Pair}
 use Rattle.batch_insert.specs.Sources.{sources_in}
 use Rattle.batch_insert.specs.Proposing.{pair_cmp, proposed_to}
-use Rattle.ann_defs.proofs.Members.{has-mapped, has-append, append-has, filter_has, has-filter, has_true, true_has, and_both, both_and}
+use Rattle.ann_defs.proofs.Members.{has-mapped, has-flat, flat-has, filter_has, has-filter, has_true, true_has, and_both, both_and}
 use Rattle.batch_insert.proofs.Grouping.{nat_order, pair_order}
 use Rattle.batch_insert.specs.Proposed.{pairs_of, proposed}
 use Rattle.batch_insert.proofs.Ascending.{Rises-filter, range_rises, in_range_has}
@@ -35,22 +35,6 @@ sources_rise t [] f h = tt
 sources_rise t (x ∷ xs) f h = (sources_below t x xs (f x (inl refl)) (λ z m. f z (inr m)) h.0, sources_rise t xs (λ z m. f z (inr m)) h.1)
 
 -- who proposes what
-has-flat : {J K : Type 0} (f : J → List K) (xs : List J) (z : K) → Has (flat_map f xs) z → (x : J) × Has xs x × Has (f x) z
-has-flat f [] z h = absurd h
-has-flat {J} f (x ∷ xs) z h =
-    elim (has-append (f x) (flat_map f xs) z h) as (λ _. (y : J) × ((x ≡ y) ⊎ Has xs y) × Has (f y) z) [
-      | inl m ↦ (x, inl refl, m)
-      | inr m ↦ let rest = has-flat f xs z m in (rest.0, inr rest.1, rest.2)
-    ]
-
-flat-has : {J K : Type 0} (f : J → List K) (xs : List J) (x : J) (z : K) → Has xs x → Has (f x) z → Has (flat_map f xs) z
-flat-has f [] x z h k = absurd h
-flat-has f (y ∷ xs) x z h k =
-    elim h as (λ _. Has (f y ++ flat_map f xs) z) [
-      | inl e ↦ append-has (f y) (flat_map f xs) z (inl (subst (λ w. Has (f w) z) (sym e) k))
-      | inr m ↦ append-has (f y) (flat_map f xs) z (inr (flat-has f xs x z m k))
-    ]
-
 module _ (n bound : ℕ) (held : ℕ → Bool) (old : ℕ → List ℕ) (batch : ℕ → Bool) (fresh : ℕ → List ℕ) (ids : List ℕ) (fits : IsBatch n bound held old batch fresh ids) (merged : ℕ → List ℕ → List ℕ → List ℕ) where
   abbrev pairs : List Pair
   pairs = proposed fresh ids

@@ -1,5 +1,5 @@
 -- What is gathered.
-use Rattle.std.proofs.Common.{◌≡◌, ◌≢◌, ℕ, ◌+◌, ◌<◌, Bool, true, false, cond, not, List, [], ◌∷◌, ◌++◌, map, take, length, get_or, refl, sym, ap, ◌∙◌, subst, inl, inr}
+use Rattle.std.proofs.Common.{◌≡◌, ◌≢◌, ℕ, ◌+◌, ◌<◌, true, false, cond, not, List, [], ◌∷◌, ◌++◌, map, take, length, get_or, refl, sym, ap, ◌∙◌, subst, inl, inr}
 use Rattle.std.specs.Prelude.{◌==◌, ◌||◌, ◌⊎◌, nat_eq}
 use Rattle.std.specs.List.{fold, All, IsDistinct, list_any}
 use Rattle.std.proofs.lemmas.Grind.{fold-append}
@@ -14,7 +14,7 @@ use Rattle.ann_defs.specs.GreedySearch.{is_in}
 use Rattle.ann_defs.specs.Graph.{has, without}
 use Rattle.ann_defs.specs.Ordered.{Has}
 use Rattle.ann_defs.proofs.Order.{has-map, has-push, All_has}
-use Rattle.ann_defs.proofs.Members.{all_from_has, has-mapped, has-append, append-has, has-filter, filter_has, has_true, true_has}
+use Rattle.ann_defs.proofs.Members.{all_from_has, has-mapped, has-append, append-has, has-filter, filter_has, has_true, true_has, same_bool}
 use Rattle.near_lists.specs.Gathered.{add_once, gathered, IsGathered}
 
 none_distinct : IsDistinct nat_eq []
@@ -106,12 +106,6 @@ module _ (p : ℕ) where
             (here.0, has_gathered_old (add_once p acc y) xs here.0 here.1, here.2 ∙ ap (λ (w : Near). w.id) e)
         | inr m ↦ id_gathered (add_once p acc y) xs x m n
       ]
-
--- two tests that are true together are the same
-same_bool : (a b : Bool) → (a ≡ true → b ≡ true) → (b ≡ true → a ≡ true) → a ≡ b
-same_bool true b f g = sym (f refl)
-same_bool false true f g = g refl
-same_bool false false f g = refl
 
 -- what is gathered has the ids of the set without p
 module _ (points : List (List ℕ)) (p : ℕ) (visited : List Near) (extra : List ℕ) (right : (z : Near) → Has visited z → z ≡ near_of points (point points p) z.id) where

@@ -2,8 +2,8 @@
 use Rattle.std.proofs.Common.{◌≡◌, ℕ, zero, suc, ◌+◌, ◌-◌, ◌*◌, ◌<◌, ◌≤◌, true, false, cond, not, List, [], ◌∷◌, ◌++◌, length, refl, sym, ap, ◌∙◌, subst, inl, inr, arith}
 use Rattle.std.specs.Prelude.{◌⊎◌}
 use Rattle.std.specs.List.{filter, flat_map, sum_by, All, range_with_len}
-use Rattle.std.proofs.lemmas.Bool.{cases_Bool, cases_lt, ltb-true}
-use Rattle.std.proofs.lemmas.List.{nil_from_length, append-nil}
+use Rattle.std.proofs.lemmas.Bool.{cases_Bool, ltb-true}
+use Rattle.std.proofs.lemmas.List.{append-nil}
 use Rattle.std.proofs.lemmas.List.Concat.{flat_map-append}
 use Rattle.std.proofs.lemmas.List.Filters.{sum_by-filter_both}
 use Rattle.std.proofs.lemmas.List.Sums.{sum_by-cons}
@@ -118,12 +118,6 @@ module _ (points : List (List ℕ)) (seed tree leaf : ℕ) where
       let many = ltb-true leaf (length one.0) list.1 in
       let short = short_at two d one.0 list.0 in
       omega (arith, two, many, short)
-
-  pub none_long : 2 ≤ leaf → (d : ℕ) → n ≤ d + 2 → long_at d ≡ []
-  none_long two d deep = elim (cases_lt 0 (length (long_at d))) as (λ _. long_at d ≡ []) [
-    | inl some ↦ let less = long_depth two d some in absurd (omega (arith, less, deep))
-    | inr none ↦ nil_from_length (long_at d) (omega (arith, none))
-  ]
 
   pub few_long : 2 ≤ leaf → (d : ℕ) → length (long_at d) ≤ n
   few_long two d =
