@@ -7,11 +7,10 @@ use Rattle.std.proofs.lemmas.List.Elements.{All-take, All-map, All-filter, Conta
 use Rattle.ann_defs.specs.Graph.{has, row_in, AreGoodRows}
 use Rattle.ann_defs.specs.Ordered.{Has}
 use Rattle.ann_defs.proofs.Order.{fold_has, has-map, has_from_Contains, All_has}
-use Rattle.ann_defs.proofs.Members.{all_from_has, has-mapped, has_true, true_has, range_has}
+use Rattle.ann_defs.proofs.Members.{all_from_has, has-mapped, has-flat, has_true, true_has, range_has}
 use Rattle.nn_descent.specs.declared.edge.Edge.{Edge}
 use Rattle.nn_descent.specs.Edges.{edge_cmp, edge_to, edges_from, edges_of}
 use Rattle.nn_descent.specs.Reversed.{reverse_in, edge_ids}
-use Rattle.nn_descent.proofs.Reversing.{has-flat}
 
 module _ (points rows : List (List ℕ)) where
   -- what holds of the edge from each point to each of its list

@@ -4,15 +4,15 @@ use Rattle.std.specs.Prelude.{◌⊎◌}
 use Rattle.std.specs.List.{All, flat_map}
 use Rattle.ann_defs.specs.Graph.{has, row_in, AreGoodRows}
 use Rattle.ann_defs.specs.Ordered.{Has}
-use Rattle.ann_defs.proofs.Members.{all_from_has, has-append, append-has, has-filter, filter_has, has_true}
+use Rattle.ann_defs.proofs.Members.{all_from_has, has-append, append-has, has-flat, flat-has, has-filter, filter_has, has_true}
 use Rattle.ann_defs.proofs.Order.{All_has}
 use Rattle.nn_descent.specs.ListRound.{nearest_of, reverse_of, around, reached, next_row}
 use Rattle.nn_descent.specs.Reversed.{others_of, joined, met}
 use Rattle.nn_descent.proofs.Neighbourhoods.{alike_both, nearest_of_alike}
-use Rattle.nn_descent.proofs.Reversing.{has-flat, flat-has, reverse_inside}
+use Rattle.nn_descent.proofs.Reversing.{reverse_inside}
 
 module _ (points : List (List ℕ)) (list : ℕ) (rows : List (List ℕ)) where
-  joined_around : (u w : ℕ) → Has (joined points list rows u) w → Has (around points list rows u) w
+  pub joined_around : (u w : ℕ) → Has (joined points list rows u) w → Has (around points list rows u) w
   joined_around u w h =
       append-has (row_in rows u) (reverse_of points list rows u) w
       (elim (has-append (row_in rows u) (others_of points list rows u) w h) as (λ _. Has (row_in rows u) w ⊎ Has (reverse_of points list rows u) w) [

@@ -6,6 +6,7 @@ use Rattle.std.proofs.lemmas.List.{get_or_past}
 use Rattle.std.proofs.lemmas.List.Elements.{All-get_or, All-nil}
 use Rattle.std.proofs.lemmas.List.FromFn.{fill_by_all}
 use Rattle.ann_defs.specs.Graph.{has, row_in}
+use Rattle.ann_defs.specs.Ordered.{Has}
 use Rattle.ann_defs.proofs.Members.{true_has, has-append}
 use Rattle.ann_defs.proofs.Order.{All_has}
 use Rattle.batch_insert.proofs.Ascending.{in_range_has}
@@ -34,11 +35,14 @@ leaf_inside n leaves v inside =
       | inr ge ↦ subst (All (λ u. u < n)) (sym (get_or_past leaves at [] ge)) (All-nil (λ u. u < n))
     ]
 
--- the lists with the leaves
-pub leaf_lists : (points : List (List ℕ)) (l : Held) (leaves : List (List ℕ)) → BelongTo points l → All (λ ids. All (λ u. u < length points) ids) leaves → ArePointLists points l.list (with_leaves points l.list (leaf_with leaves) l.rows)
-leaf_lists points l leaves belong inside =
-    nearest_lists points l.list (λ v. row_in l.rows v ++ leaf_with leaves v) (λ v u below h.
+-- what a point may take with its leaf are points
+pub with_leaf_inside : (points : List (List ℕ)) (l : Held) (leaves : List (List ℕ)) → BelongTo points l → All (λ ids. All (λ u. u < length points) ids) leaves → (v u : ℕ) → v < length points → Has (row_in l.rows v ++ leaf_with leaves v) u → u < length points
+with_leaf_inside points l leaves belong inside v u below h =
     elim (has-append (row_in l.rows v) (leaf_with leaves v) u h) as (λ _. u < length points) [
       | inl m ↦ All_has (λ w. w < length points) (row_in l.rows v) u (belong.rows.good v below).inside m
       | inr m ↦ All_has (λ w. w < length points) (leaf_with leaves v) u (leaf_inside (length points) leaves v inside) m
-    ])
+    ]
+
+-- the lists with the leaves
+pub leaf_lists : (points : List (List ℕ)) (l : Held) (leaves : List (List ℕ)) → BelongTo points l → All (λ ids. All (λ u. u < length points) ids) leaves → ArePointLists points l.list (with_leaves points l.list (leaf_with leaves) l.rows)
+leaf_lists points l leaves belong inside = nearest_lists points l.list (λ v. row_in l.rows v ++ leaf_with leaves v) (with_leaf_inside points l leaves belong inside)

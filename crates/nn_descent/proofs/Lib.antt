@@ -5,6 +5,8 @@ pub mod EdgeOrder
 pub mod NearestLists
 pub mod Neighbourhoods
 pub mod Joining
+pub mod Past
+pub mod Freshness
 pub mod EdgeFacts
 pub mod Belonging
 pub mod Counting

@@ -20,7 +20,7 @@ use Rattle.nn_descent.specs.Held.{ArePointLists}
 use Rattle.nn_descent.specs.ListRound.{nearest_of}
 
 -- ids that are right with their distances are these again
-near_ids : (points : List (List ℕ)) (query : List ℕ) (xs : List Near) → ((z : Near) → Has xs z → z ≡ near_of points query z.id) → all_near points query (ids_of xs) ≡ xs
+pub near_ids : (points : List (List ℕ)) (query : List ℕ) (xs : List Near) → ((z : Near) → Has xs z → z ≡ near_of points query z.id) → all_near points query (ids_of xs) ≡ xs
 near_ids points query [] right = refl
 near_ids points query (x ∷ xs) right =
     let rest = near_ids points query xs (λ z h. right z (inr h)) in

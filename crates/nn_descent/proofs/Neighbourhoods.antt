@@ -7,12 +7,11 @@ use Rattle.ann_defs.specs.Graph.{has, without, row_in, AreGoodRows}
 use Rattle.ann_defs.specs.Laws.{AreAlike}
 use Rattle.ann_defs.specs.Ordered.{Has}
 use Rattle.ann_defs.proofs.Alike.{alike_has, alike_back}
-use Rattle.ann_defs.proofs.Members.{has-append, append-has, has-filter, filter_has, has_true, true_has, range_has}
+use Rattle.ann_defs.proofs.Members.{has-append, append-has, has-flat, flat-has, has-filter, filter_has, has_true, true_has, range_has}
 use Rattle.ann_defs.proofs.Order.{All_has}
 use Rattle.robust_prune.specs.Nearest.{nearest_alike}
 use Rattle.nn_descent.specs.ListRound.{nearest_of, sources_of, reverse_of, around, reached, next_row, next_rows}
 use Rattle.nn_descent.specs.Settled.{IsSettled}
-use Rattle.nn_descent.proofs.Reversing.{has-flat, flat-has}
 use Rattle.nn_descent.proofs.NearestLists.{nearest_is_good}
 
 -- one list has each member of another

@@ -1,6 +1,6 @@
 -- The edges to a target, in order, are its reverse neighbours.
-use Rattle.std.proofs.Common.{◌≡◌, ◌≢◌, ℕ, ◌<◌, Bool, not, List, [], ◌∷◌, ◌++◌, map, take, length, refl, sym, ap, ◌∙◌, subst, inl, inr, arith}
-use Rattle.std.specs.Prelude.{◌==◌, ◌⊎◌}
+use Rattle.std.proofs.Common.{◌≡◌, ◌≢◌, ℕ, ◌<◌, Bool, not, List, [], ◌∷◌, map, take, length, refl, sym, ap, ◌∙◌, subst, inl, inr, arith}
+use Rattle.std.specs.Prelude.{◌==◌}
 use Rattle.std.specs.List.{filter, flat_map, range_with_len, All}
 use Rattle.std.specs.declared.cmp.Ordering.TheVariants.{Less, Equal}
 use Rattle.std.specs.Ordering.{nat_cmp, ordering_then}
@@ -17,7 +17,7 @@ use Rattle.ann_defs.specs.Ordered.{Has, Rises, IsBelow, ordered}
 use Rattle.ann_defs.specs.Graph.{has, without, row_in, AreGoodRows}
 use Rattle.ann_defs.proofs.Order.{IsExactOrder, Rises-fold_put, ordered_is, fold_has, has_fold_new, has-map, has-take, All_has}
 use Rattle.ann_defs.proofs.NearOrder.{near_order}
-use Rattle.ann_defs.proofs.Members.{has-mapped, has-append, append-has, filter_has, has-filter, has_true, true_has, range_has, all_from_has}
+use Rattle.ann_defs.proofs.Members.{has-mapped, has-flat, flat-has, filter_has, has-filter, has_true, true_has, range_has, all_from_has}
 use Rattle.batch_insert.proofs.Ascending.{Rises-filter}
 use Rattle.nn_descent.specs.declared.edge.Edge.{Edge}
 use Rattle.nn_descent.specs.Edges.{edge_cmp, edge_to, edges_from, edges_of}
@@ -29,22 +29,6 @@ edge_order = record {
   total = then_total (on_total (λ (e : Edge). e.target) nat_cmp_total) (on_total (λ (e : Edge). e.source) near_order.total);
   exact = λ a b h. ap (λ (p : ℕ × Near). record { target = p.0; source = p.1 }) (exact_pairs nat_cmp near_cmp exact_unsigned near_order.exact (a.target, a.source) (b.target, b.source) h);
 }
-
-pub has-flat : {J K : Type 0} (f : J → List K) (xs : List J) (z : K) → Has (flat_map f xs) z → (x : J) × Has xs x × Has (f x) z
-has-flat f [] z h = absurd h
-has-flat {J} f (x ∷ xs) z h =
-    elim (has-append (f x) (flat_map f xs) z h) as (λ _. (y : J) × ((x ≡ y) ⊎ Has xs y) × Has (f y) z) [
-      | inl m ↦ (x, inl refl, m)
-      | inr m ↦ let rest = has-flat f xs z m in (rest.0, inr rest.1, rest.2)
-    ]
-
-pub flat-has : {J K : Type 0} (f : J → List K) (xs : List J) (x : J) (z : K) → Has xs x → Has (f x) z → Has (flat_map f xs) z
-flat-has f [] x z h k = absurd h
-flat-has f (y ∷ ys) x z h k =
-    elim h as (λ _. Has (f y ++ flat_map f ys) z) [
-      | inl e ↦ append-has (f y) (flat_map f ys) z (inl (subst (λ w. Has (f w) z) (sym e) k))
-      | inr m ↦ append-has (f y) (flat_map f ys) z (inr (flat-has f ys x z m k))
-    ]
 
 -- edges of one target rise by their sources
 less_sources : (a b : Edge) → a.target ≡ b.target → edge_cmp a b ≡ Less → near_cmp a.source b.source ≡ Less

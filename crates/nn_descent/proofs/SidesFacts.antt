@@ -1,5 +1,5 @@
 -- What is gathered of both directions.
-use Rattle.std.proofs.Common.{◌≡◌, ℕ, ◌<◌, ◌≤◌, Bool, true, false, not, eqb, List, [], ◌∷◌, ◌++◌, map, length, refl, sym, ap, ◌∙◌, subst, inl, inr, arith}
+use Rattle.std.proofs.Common.{◌≡◌, ℕ, ◌<◌, ◌≤◌, true, not, eqb, List, [], ◌∷◌, ◌++◌, map, length, sym, ap, ◌∙◌, subst, inl, inr, arith}
 use Rattle.std.specs.Prelude.{◌==◌}
 use Rattle.std.specs.List.{All, filter, range_with_len, list_any}
 use Rattle.std.proofs.lemmas.Bool.{eqb-true, or_cases}
@@ -15,18 +15,13 @@ use Rattle.ann_defs.proofs.Alike.{prune_alike}
 use Rattle.ann_defs.proofs.Order.{has-map, fold_has, has_fold_new, Rises-fold_put, All_has}
 use Rattle.ann_defs.proofs.NearOrder.{near_order}
 use Rattle.ann_defs.proofs.GoodRows.{rising_once}
-use Rattle.ann_defs.proofs.Members.{all_from_has, has-mapped, has-append, append-has, has-filter, filter_has, has_true, true_has, range_has, distinct_once}
+use Rattle.ann_defs.proofs.Members.{all_from_has, has-mapped, has-append, append-has, has-filter, filter_has, has_true, true_has, same_bool, range_has, distinct_once}
 use Rattle.near_lists.specs.Gathered.{gathered, IsGathered}
 use Rattle.near_lists.proofs.Gathering.{is_gathered}
 use Rattle.nn_descent.specs.declared.edge.Edge.{Edge}
 use Rattle.nn_descent.specs.Edges.{edges_of}
 use Rattle.nn_descent.specs.ListRound.{sources_of}
 use Rattle.nn_descent.proofs.Reversing.{sources_are}
-
-same_bool : (a b : Bool) → (a ≡ true → b ≡ true) → (b ≡ true → a ≡ true) → a ≡ b
-same_bool true b f g = sym (f refl)
-same_bool false true f g = g refl
-same_bool false false f g = refl
 
 module _ (points rows : List (List ℕ)) (list v : ℕ) (good : AreGoodRows (length points) list rows) where
   abbrev pub edges_to : List Edge

@@ -5,6 +5,7 @@ pub mod Edges
 pub mod Held
 pub mod NndIndex
 pub mod Reversed
+pub mod Fresh
 pub mod Offering
 pub mod WrittenRows
 pub mod Rounds

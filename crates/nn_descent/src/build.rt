@@ -91,8 +91,8 @@ fn improve<R: Threads + Sync, P: Rounds, G: Gate + Sync>(
 /// The index of points: empty lists take the leaves of each tree in turn, at most `rounds` rounds follow, up to the first that
 /// changes at most `floor` entries, and the search graph of the lists is the index.
 ///
-/// Runs on any pool, and its index depends on points and settings alone. Fails only with `NoMemory`, which leaves nothing. Memory: two lists of
-/// `4 * n * (list + 1)` bytes with twelve bytes for each of their ids, and the rows of the index.
+/// Runs on any pool, and its index depends on points and settings alone. Fails only with `NoMemory`, which leaves nothing. Memory: while
+/// a round computes, nine rows of `4 * n * (list + 1)` bytes, twice twelve bytes for each id of the lists; and the rows of the index.
 pub fn build_nnd<R: Threads + Sync, P: Rounds, G: Gate + Sync>(
     rt: &R,
     alloc: Global,

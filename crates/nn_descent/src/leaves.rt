@@ -1,11 +1,10 @@
 //! The leaves of a tree join the lists.
-ghost use Rattle.std.specs.Prelude.{◌≡◌, length, IfOk, IfErr};
-ghost use Rattle.nn_descent.specs.Edges.{edges_of};
+ghost use Rattle.std.specs.Prelude.{◌≡◌, ◌<◌, true, false, length, replicate, IfOk, IfErr};
+ghost use Rattle.std.specs.List.{All};
 ghost use Rattle.nn_descent.specs.Held.{ArePointLists, BelongTo};
 ghost use Rattle.nn_descent.specs.ListRound.{with_leaves};
 ghost use Rattle.pivot_trees.specs.Leaves.{leaf_with};
 
-use crate::edges::Edges;
 use crate::flags::raise_all;
 use crate::leaf_row::LeafRow;
 use crate::lists::Lists;
@@ -20,18 +19,11 @@ use std::alloc::Global;
 use std::thread::Threads;
 use steal_pool::Rounds;
 
-// Lists with the leaves of a tree, and their edges in reverse.
-#[derive(Drop)]
-struct Planted {
-    rows: FlatGraph,
-    edges: Edges,
-}
-
 impl Lists {
     /// Each list becomes the nearest of itself and the leaf of its point, and all points become active.
     ///
     /// There is a task for each point. Fails only with `NoMemory`, which leaves the lists as they were, and all points active. Memory: rows
-    /// and edges as large as the new lists', and a scratch for each worker.
+    /// as large as the new lists', and a scratch for each worker. Edges are not sorted before a round or a search graph reads them.
     pub fn add_leaves<R: Threads + Sync, P: Rounds, G: Gate + Sync>(
         &mut self,
         rt: &R,
@@ -49,11 +41,9 @@ impl Lists {
         ensures belong { BelongTo points.now.vectors self.new }
         ensures workers { P.count pool.new ≡ P.count pool.old }
     {
-        match plant(rt, alloc, points, self, tree, pool, gate) {
-            Ok(planted) => {
-                self.rows = planted.rows;
-                self.edges = planted.edges;
-                raise_all(self.active.as_mut_slice());
+        match leaf_rows(rt, alloc, points, self, tree, pool, gate) {
+            Ok(rows) => {
+                self.take_rows(rows);
                 Ok(())
             }
             Err(refusal) => {
@@ -62,32 +52,23 @@ impl Lists {
             }
         }
     }
+
+    // Takes the rows with the leaves over, whose edges aren't sorted. Takes no memory.
+    fn take_rows(&mut self, rows: FlatGraph)
+        requires { rows.width ≡ self.old.list }
+        ensures list { self.new.list ≡ self.old.list }
+        ensures rows { self.new.rows ≡ rows.rows }
+        ensures unsorted { self.new.sorted ≡ false }
+        ensures active { self.new.active ≡ replicate (length self.old.active) true }
+        ensures seen { (self.new.seen_rows ≡ self.old.seen_rows) × (self.new.seen_others ≡ self.old.seen_others) }
+    {
+        self.rows = rows;
+        self.sorted = false;
+        raise_all(self.active.as_mut_slice());
+    }
 }
 
 // The lists with the leaves of a tree, in memory of their own.
-fn plant<R: Threads + Sync, P: Rounds, G: Gate + Sync>(
-    rt: &R,
-    alloc: Global,
-    points: &Points,
-    lists: &Lists,
-    tree: &Tree,
-    pool: &mut P,
-    gate: &G,
-) -> Result<Planted, NoMemory>
-    requires belong { BelongTo points.now.vectors lists.now }
-    requires tree { tree.now.count ≡ length points.now.vectors }
-    ensures lists { IfOk result (λ p. ArePointLists points.now.vectors lists.now.list p.rows.rows) }
-    ensures rows { IfOk result (λ p. p.rows.rows ≡ with_leaves points.now.vectors lists.now.list (leaf_with tree.now.leaves) lists.now.rows) }
-    ensures width { IfOk result (λ p. p.rows.width ≡ lists.now.list) }
-    ensures edges { IfOk result (λ p. p.edges ≡ edges_of points.now.vectors p.rows.rows) }
-    ensures workers { P.count pool.new ≡ P.count pool.old }
-{
-    let rows = leaf_rows(rt, alloc, points, lists, tree, pool, gate)?;
-    let edges = Edges::of(alloc, points, &rows)?;
-    Ok(Planted { rows, edges })
-}
-
-// The lists with the leaves of a tree, without their edges.
 fn leaf_rows<R: Threads + Sync, P: Rounds, G: Gate + Sync>(
     rt: &R,
     alloc: Global,
@@ -102,6 +83,7 @@ fn leaf_rows<R: Threads + Sync, P: Rounds, G: Gate + Sync>(
     ensures lists { IfOk result (λ g. ArePointLists points.now.vectors lists.now.list g.rows) }
     ensures rows { IfOk result (λ g. g.rows ≡ with_leaves points.now.vectors lists.now.list (leaf_with tree.now.leaves) lists.now.rows) }
     ensures width { IfOk result (λ g. g.width ≡ lists.now.list) }
+    ensures inside { IfOk result (λ _. All (λ ids. All (λ u. u < length points.now.vectors) ids) tree.now.leaves) }
     ensures workers { P.count pool.new ≡ P.count pool.old }
 {
     prove!(tree.count() == points.count());

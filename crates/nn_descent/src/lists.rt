@@ -5,6 +5,7 @@ ghost use Rattle.ann_defs.specs.Graph.{row_in};
 ghost use Rattle.nn_descent.specs.Held.{BelongTo};
 
 use crate::edges::Edges;
+use crate::hoods::Hoods;
 use ann_shelf::NoMemory;
 use bin_files::Points;
 use graph_rows::FlatGraph;
@@ -13,14 +14,19 @@ use std::marker::Model;
 
 /// A list of the nearest known neighbours for each point, nearest first, and which points are active.
 ///
-/// A contract sees the greatest length of a list, the lists, their edges in reverse, and the flags. A point that isn't active keeps its list in
-/// the next round. Memory: `4 * n * (list + 1)` bytes for the lists, twelve for each of their ids, and five for each point.
+/// A contract sees the greatest length of a list, the lists, their edges in reverse and whether these are sorted, the flags, and the
+/// neighbourhoods that the last round met. A point that isn't active keeps its list in the next round. Memory: `4 * n * (list + 1)` bytes for
+/// the lists and twice as much for the neighbourhoods, twelve for each id once a round or a search graph sorts them, and five for each point.
 #[derive(Drop)]
 pub struct Lists {
     pub(crate) list: u32,
     pub(crate) rows: FlatGraph,
     pub(crate) edges: Edges,
+    // Whether the edges are those of the lists.
+    pub(crate) sorted: bool,
     pub(crate) active: Vec<bool>,
+    // What the last round met.
+    pub(crate) seen: Hoods,
 }
 
 impl Model for Lists {
@@ -29,7 +35,7 @@ impl Model for Lists {
 
     ghost Value = { Held };
 
-    ghost view = { λ l. record { list = l.list; rows = l.rows.rows; edges = l.edges; active = l.active.items } };
+    ghost view = { λ l. record { list = l.list; rows = l.rows.rows; edges = l.edges; sorted = l.sorted; active = l.active.items; seen_rows = l.seen.rows.rows; seen_others = l.seen.others.rows } };
 
     ghost invariant = { λ l. l.rows.width ≡ l.list };
 }
@@ -47,11 +53,17 @@ impl Lists {
         let rows = FlatGraph::new(alloc, n, list)?;
         let edges = Edges::of(alloc, points, &rows)?;
         let active = vec![in alloc; true; n as usize]?;
+        let seen = Hoods {
+            rows: FlatGraph::new(alloc, n, list)?,
+            others: FlatGraph::new(alloc, n, list)?,
+        };
         Ok(Lists {
             list,
             rows,
             edges,
+            sorted: true,
             active,
+            seen,
         })
     }
 

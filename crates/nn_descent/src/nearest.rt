@@ -100,6 +100,13 @@ impl Nearest {
         self.len = len;
     }
 
+    /// Keeps a word that nobody reads, so that the reads that it came from are not left out.
+    pub(crate) fn note(&mut self, word: u32)
+        ensures { self.new ≡ self.old }
+    {
+        self.todo[0] = word;
+    }
+
     /// Writes the nearest of the ids that were offered, without `v`, to the front of `out`, and returns how many they are.
     pub(crate) fn write(&self, v: u32, out: &mut [u32]) -> usize
         requires { length out.old ≡ self.now.most }

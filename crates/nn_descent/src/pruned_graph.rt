@@ -70,8 +70,8 @@ impl<'a> RowRule for PrunedRow<'a> {
 /// The search graph of lists: each row is pruned by RobustPrune (DiskANN, Algorithm 2) from the point's list and the points
 /// whose lists hold it.
 ///
-/// A task for each point. Fails only with `NoMemory`, which leaves nothing. Memory: rows of `4 * n * (degree + 1)` bytes, and for each
-/// worker 20 bytes a point.
+/// A task for each point. Fails only with `NoMemory`, which leaves nothing. Memory: rows of `4 * n * (degree + 1)` bytes, for each
+/// worker 20 bytes a point, and twelve bytes for each id of the lists where leaves came after the last round.
 pub fn search_graph<R: Threads + Sync, P: Rounds, G: Gate + Sync>(
     rt: &R,
     alloc: Global,
@@ -89,14 +89,61 @@ pub fn search_graph<R: Threads + Sync, P: Rounds, G: Gate + Sync>(
     ensures good { IfOk result (λ g. AreGoodRows (length points.now.vectors) degree g.rows) }
     ensures workers { P.count pool.new ≡ P.count pool.old }
 {
+    if lists.sorted {
+        return pruned_rows(
+            rt,
+            alloc,
+            points,
+            &lists.rows,
+            &lists.edges,
+            degree,
+            alpha,
+            pool,
+            gate,
+        );
+    }
+    let edges = Edges::of(alloc, points, &lists.rows)?;
+    pruned_rows(
+        rt,
+        alloc,
+        points,
+        &lists.rows,
+        &edges,
+        degree,
+        alpha,
+        pool,
+        gate,
+    )
+}
+
+// The search graph of lists whose edges are sorted.
+fn pruned_rows<R: Threads + Sync, P: Rounds, G: Gate + Sync>(
+    rt: &R,
+    alloc: Global,
+    points: &Points,
+    rows: &FlatGraph,
+    edges: &Edges,
+    degree: u32,
+    alpha: Alpha,
+    pool: &mut P,
+    gate: &G,
+) -> Result<FlatGraph, NoMemory>
+    requires good { AreGoodRows (length points.now.vectors) rows.now.width rows.now.rows }
+    requires edges { edges.now ≡ edges_of points.now.vectors rows.now.rows }
+    requires degree { (1 ≤ degree) × (degree ≤ MAX_DEGREE) }
+    requires words { length points.now.vectors * (degree + 1) ≤ MAX_WORDS }
+    ensures rows { IfOk result (λ g. g ≡ record { width = degree; rows = graph_rows points.now.vectors rows.now.rows alpha.num alpha.den degree }) }
+    ensures good { IfOk result (λ g. AreGoodRows (length points.now.vectors) degree g.rows) }
+    ensures workers { P.count pool.new ≡ P.count pool.old }
+{
     let n = points.count();
     let mut graph = FlatGraph::new(alloc, n, degree)?;
     let ids = file_order(alloc, n)?;
     let mut posts = posts_for(alloc, points, pool.workers())?;
     let rule = PrunedRow {
         points,
-        rows: &lists.rows,
-        edges: &lists.edges,
+        rows,
+        edges,
         alpha,
         degree,
     };

@@ -38,3 +38,6 @@ returns-clause-lists g c =
     let leaves = c.args.tree.now.leaves in
     let inside = subst (λ n. All (λ ids. All (λ u. u < n) ids) leaves) c.requires.tree c.count.ensures.inside in
     subst (ArePointLists points l.list) (sym (returns-clause-rows g c)) (leaf_lists points l leaves c.requires.belong inside)
+
+pub returns-clause-inside : goal.returns-clause-inside
+returns-clause-inside g c = subst (λ n. All (λ ids. All (λ u. u < n) ids) c.args.tree.now.leaves) c.requires.tree c.count.ensures.inside

@@ -18,5 +18,15 @@ returns-clause-belong c =
     let points = c.args.points.now.vectors in
     let rows : c.in_ok-rows.rows.rows ≡ replicate (length points) [] = ap (λ (g : Flat). g.rows) c.in_ok-rows.ensures ∙ ap (λ n. replicate n []) c.count-n.ensures.value in
     let flags : c.in_ok-active.active.items ≡ replicate (length points) true = c.in_ok-active.ensures.items_if_clones_equal (λ y e. e) ∙ ap (λ n. replicate n true) c.count-n.ensures.value in
-    let lists : Held = record { list = c.args.list; rows = c.in_ok-rows.rows.rows; edges = c.in_ok-edges.edges; active = c.in_ok-active.active.items } in
-    empty_belong points lists c.requires.list c.requires.words rows c.in_ok-edges.ensures flags
+    let seen = ap (λ (g : Flat). g.rows) c.in_ok-new.ensures ∙ ap (λ n. replicate n []) c.count-n.ensures.value in
+    let seen_others = ap (λ (g : Flat). g.rows) c.in_ok-new-2.ensures ∙ ap (λ n. replicate n []) c.count-n.ensures.value in
+    let lists : Held = record {
+      list = c.args.list;
+      rows = c.in_ok-rows.rows.rows;
+      edges = c.in_ok-edges.edges;
+      sorted = true;
+      active = c.in_ok-active.active.items;
+      seen_rows = _;
+      seen_others = _;
+    } in
+    empty_belong points lists c.requires.list c.requires.words rows c.in_ok-edges.ensures flags seen seen_others

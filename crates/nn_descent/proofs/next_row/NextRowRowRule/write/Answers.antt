@@ -1,6 +1,6 @@
 use Rattle.std.proofs.Common.{◌∙◌, take}
-use Rattle.nn_descent.specs.Reversed.{met}
-use Rattle.nn_descent.proofs.Joining.{met_next}
+use Rattle.nn_descent.specs.Fresh.{offered}
+use Rattle.nn_descent.proofs.Freshness.{offered_next}
 use Rattle.nn_descent.proofs.Offers.{finished}
 use Rattle.nn_descent.proofs.next_row.NextRowRowRule.write.Goals as goal
 
@@ -12,5 +12,11 @@ returns-clause-row c =
     let r = c.args.self.now in
     let points = r.points.now.vectors in
     let width = r.rows.now.width in
-    finished points c.args.v width (met points width r.rows.now.rows c.args.v) c.begin.new.self c.offer_reached.new.scratch (take c.write.result c.write.new.out) c.begin.ensures.none (c.begin.ensures.most ∙ c.requires.scratch.room) c.offer_reached.ensures c.write.ensures.row
-    ∙ met_next points width r.rows.now.rows c.args.v
+    let rows = r.rows.now.rows in
+    let others = r.others.now.rows in
+    let fresh = r.fresh.now.rows in
+    let fresh_others = r.fresh_others.now.rows in
+    let stale = r.stale.now.rows in
+    let stale_others = r.stale_others.now.rows in
+    finished points c.args.v width (offered rows others fresh fresh_others stale stale_others c.args.v) c.begin.new.self c.offer_reached.new.scratch (take c.write.result c.write.new.out) c.begin.ensures.none (c.begin.ensures.most ∙ c.requires.scratch.room) c.offer_reached.ensures c.write.ensures.row
+    ∙ offered_next points width rows others r.seen.now.rows.rows r.seen.now.others.rows fresh fresh_others stale stale_others r.good r.reversed r.new r.new_others r.old r.old_others r.past c.args.v c.requires.v

@@ -4,11 +4,10 @@ use Rattle.std.proofs.lemmas.List.{length-replicate}
 use Rattle.ann_defs.specs.Graph.{AreGoodRows}
 use Rattle.graph_rows.specs.Flat.{Flat}
 use Rattle.seeded_order.specs.Order.{file_order_of}
-use Rattle.nn_descent.specs.Held.{Held}
-use Rattle.nn_descent.specs.SearchGraph.{graph_row, graph_rows}
+use Rattle.nn_descent.specs.SearchGraph.{graph_row}
 use Rattle.nn_descent.specs.WrittenRows.{with_rows}
 use Rattle.nn_descent.proofs.GraphFacts.{all_inside, all_written, graph_good}
-use Rattle.nn_descent.proofs.pruned_graph.search_graph.Goals as goal
+use Rattle.nn_descent.proofs.pruned_graph.pruned_rows.Goals as goal
 
 pub put_rows-requires-clause-inside : goal.put_rows-requires-clause-inside
 put_rows-requires-clause-inside g c κs within =
@@ -20,13 +19,11 @@ pub returns-clause-rows : goal.returns-clause-rows
 returns-clause-rows g c =
     let points = c.args.points.now.vectors in
     let n = length points in
-    let num = c.args.alpha.num in
-    let den = c.args.alpha.den in
-    let row = graph_row points c.lists.inside.rows.rows num den c.args.degree in
+    let row = graph_row points c.args.rows.now.rows c.args.alpha.num c.args.alpha.den c.args.degree in
     let ids = c.deref.ensures.value ∙ c.in_ok-ids.ensures ∙ ap file_order_of c.count-n.ensures.value in
     let empty = ap (λ (f : Flat). f.rows) c.in_ok-graph.ensures ∙ ap (λ (k : ℕ). replicate k []) c.count-n.ensures.value in
     let width = c.in_ok-put_rows.ensures.width ∙ ap (λ (f : Flat). f.width) c.in_ok-graph.ensures in
-    let rows = c.in_ok-put_rows.ensures.rows ∙ (λ i. with_rows row (ids i) (empty i)) ∙ all_written row (replicate n []) n (length-replicate n []) ∙ ap (λ (h : Held). graph_rows points h.rows num den c.args.degree) c.lists.view_is in
+    let rows = c.in_ok-put_rows.ensures.rows ∙ (λ i. with_rows row (ids i) (empty i)) ∙ all_written row (replicate n []) n (length-replicate n []) in
     λ i. record { width = width i; rows = rows i }
 
 pub returns-clause-good : goal.returns-clause-good
@@ -35,8 +32,9 @@ returns-clause-good g c =
     let n = length points in
     let num = c.args.alpha.num in
     let den = c.args.alpha.den in
-    let row = graph_row points c.lists.inside.rows.rows num den c.args.degree in
+    let rows = c.args.rows.now.rows in
+    let row = graph_row points rows num den c.args.degree in
     let ids = c.deref.ensures.value ∙ c.in_ok-ids.ensures ∙ ap file_order_of c.count-n.ensures.value in
     let empty = ap (λ (f : Flat). f.rows) c.in_ok-graph.ensures ∙ ap (λ (k : ℕ). replicate k []) c.count-n.ensures.value in
-    let rows = c.in_ok-put_rows.ensures.rows ∙ (λ i. with_rows row (ids i) (empty i)) ∙ all_written row (replicate n []) n (length-replicate n []) ∙ ap (λ (h : Held). graph_rows points h.rows num den c.args.degree) c.lists.view_is in
-    subst (AreGoodRows n c.args.degree) (sym rows) (graph_good points c.args.lists.now.rows c.args.lists.now.list c.requires.belong.rows num den c.args.degree)
+    let written = c.in_ok-put_rows.ensures.rows ∙ (λ i. with_rows row (ids i) (empty i)) ∙ all_written row (replicate n []) n (length-replicate n []) in
+    subst (AreGoodRows n c.args.degree) (sym written) (graph_good points rows c.args.rows.now.width c.requires.good num den c.args.degree)
