@@ -1,0 +1,4 @@
+pub mod Keeping
+pub mod Publishing
+pub mod Searching
+pub mod Settings
