@@ -22,6 +22,8 @@ use Rattle.annbuild_lines.specs.declared.fault.What.TheVariants as whats
 use Rattle.annbuild_lines.specs.declared.fault.Fault.{Fault}
 use Rattle.annbuild_lines.specs.declared.fault.Fault.TheVariants.{Usage, Setting, Read, Malformed, Unfit, Write, NoMemory, TooLarge}
 use Rattle.annbuild_lines.specs.declared.index_lines.BuiltLine.{BuiltLine}
+use Rattle.annbuild_lines.specs.declared.batch_line.Moment.{Moment}
+use Rattle.annbuild_lines.specs.declared.batch_line.Moment.TheVariants.{During, After}
 
 -- what a line tells of an index
 abbrev pub index_told : BuiltLine → List ℕ
@@ -52,6 +54,15 @@ answer_text near = codes " " ++ decimal near.id ++ codes ":" ++ decimal near.dis
 -- the line of a query: its number, and its answers from the nearest on
 abbrev pub query_text : ℕ → List Near → List ℕ
 query_text number answers = decimal number ++ flat_map answer_text answers ++ codes "\n"
+
+-- the word with which the line of an answer beside a build begins
+abbrev pub moment_word : Moment → List ℕ
+moment_word During = codes "live"
+moment_word After = codes "last"
+
+-- the line of an answer beside a build: the query's number, the batch that it is of, and the answers from the nearest on
+abbrev pub batch_text : Moment → (number batch : ℕ) → List Near → List ℕ
+batch_text moment number batch answers = moment_word moment ++ (codes " " ++ decimal number) ++ (codes " " ++ decimal batch) ++ flat_map answer_text answers ++ codes "\n"
 
 -- the settings, as their options are called
 abbrev pub setting_name : SettingName → List ℕ

@@ -4,6 +4,8 @@
 //! making one takes no memory.
 #![tactic(auto)]
 
+mod answers;
+mod batch_line;
 mod count_lines;
 mod fault;
 mod fault_lines;
@@ -13,6 +15,7 @@ mod names;
 mod query_line;
 mod rules;
 
+pub use batch_line::{Moment, batch_line_bytes, push_batch_line};
 pub use count_lines::{answered_line, made_line};
 pub use fault::{Fault, Rule, Status, What};
 pub use fault_lines::fault_line;

@@ -41,6 +41,15 @@ pub fn push_number(line: &mut Line, n: u64)
     push_digits(line, n);
 }
 
+/// Adds a number of 32 bits in decimal.
+pub fn push_small(line: &mut Line, n: u32)
+    requires { array_vec_len line.old + 10 ≤ 256 }
+    ensures items { line.new.items ≡ line.old.items ++ decimal n }
+    ensures len { array_vec_len line.new ≤ array_vec_len line.old + 10 }
+{
+    push_digits(line, u64::from(n));
+}
+
 /// Adds a name and a number.
 pub fn push_field(line: &mut Line, name: &str, n: u64)
     requires room { array_vec_len line.old + 29 ≤ 256 }

@@ -5,7 +5,7 @@ use Rattle.std.specs.List.{slice_get, filter_map, cons_option}
 use Rattle.std.specs.Option.{option_or, unwrap_or, option_map}
 use Rattle.ann_defs.specs.declared.kinds.Kind.{Kind}
 use Rattle.ann_defs.specs.declared.kinds.Kind.TheVariants.{Vamana, Hnsw, Nnd}
-use Rattle.ann_defs.specs.declared.limits.TheConstants.{MAX_BEAM, MAX_DEGREE, MAX_DIM, MAX_POINTS, MAX_WORKERS}
+use Rattle.ann_defs.specs.declared.limits.TheConstants.{MAX_BEAM, MAX_CALLERS, MAX_DEGREE, MAX_DIM, MAX_POINTS, MAX_WORKERS}
 use Rattle.command_options.specs.declared.setting_name.SettingName.{SettingName}
 use Rattle.command_options.specs.declared.setting_name.SettingName.TheVariants as settings
 use Rattle.command_options.specs.declared.verb.Verb.{Verb}
@@ -179,7 +179,7 @@ in_range verb kind given said h =
     let queries = in_bounds settings.QueryCount 100 1 4096 search (text options.Queries) (at 21 (lit< tt)) in
     let width = in_bounds settings.Search 64 1 MAX_BEAM search (text options.Search) (at 22 (lit< tt)) in
     let k = all_k_bounds (is_exact verb) search (text options.K) width.0 (at 23 (lit< tt)) in
-    let callers = in_bounds settings.Callers 2 1 16 search (text options.Callers) (at 24 (lit< tt)) in
+    let callers = in_bounds settings.Callers 2 1 MAX_CALLERS search (text options.Callers) (at 24 (lit< tt)) in
     let label = in_bounds settings.Label 0 0 63 search (text options.Label) (at 25 (lit< tt)) in
     record {
       kind = code;

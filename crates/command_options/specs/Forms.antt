@@ -6,7 +6,7 @@ use Rattle.ann_defs.specs.declared.kinds.Kind.TheVariants.{Vamana, Hnsw}
 use Rattle.ann_defs.specs.declared.kinds.OrderKind.TheVariants.{Seeded}
 use Rattle.ann_defs.specs.declared.kinds.StartKind.TheVariants.{Medoid}
 use Rattle.ann_defs.specs.declared.kinds.Way.TheVariants.{Stealing}
-use Rattle.ann_defs.specs.declared.limits.TheConstants.{MAX_BEAM, MAX_DEGREE, MAX_DIM, MAX_POINTS, MAX_WORKERS}
+use Rattle.ann_defs.specs.declared.limits.TheConstants.{MAX_BEAM, MAX_CALLERS, MAX_DEGREE, MAX_DIM, MAX_POINTS, MAX_WORKERS}
 use Rattle.command_options.specs.declared.setting_name.SettingName.TheVariants as settings
 use Rattle.command_options.specs.declared.verb.Verb.{Verb}
 use Rattle.command_options.specs.declared.option_name.OptionName.{OptionName}
@@ -57,7 +57,7 @@ option_form verb kind options.Dim = OfNumber (Some 16) (Within settings.Dim 1 MA
 option_form verb kind options.Queries = OfNumber (Some 100) (Within settings.QueryCount 1 4096)
 option_form verb kind options.Search = OfNumber (Some 64) (Within settings.Search 1 MAX_BEAM)
 option_form verb kind options.K = form_of_k (is_exact verb)
-option_form verb kind options.Callers = OfNumber (Some 2) (Within settings.Callers 1 16)
+option_form verb kind options.Callers = OfNumber (Some 2) (Within settings.Callers 1 MAX_CALLERS)
 option_form verb kind options.Label = OfNumber (Some 0) (Within settings.Label 0 63)
 option_form verb kind options.Type = OfElement U8
 

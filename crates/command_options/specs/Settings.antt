@@ -10,7 +10,7 @@ use Rattle.ann_defs.specs.declared.kinds.StartKind.{StartKind}
 use Rattle.ann_defs.specs.declared.kinds.StartKind.TheVariants.{Medoid}
 use Rattle.ann_defs.specs.declared.kinds.Way.{Way}
 use Rattle.ann_defs.specs.declared.kinds.Way.TheVariants.{Stealing}
-use Rattle.ann_defs.specs.declared.limits.TheConstants.{MAX_BEAM, MAX_DEGREE, MAX_DIM, MAX_POINTS, MAX_WORKERS}
+use Rattle.ann_defs.specs.declared.limits.TheConstants.{MAX_BEAM, MAX_CALLERS, MAX_DEGREE, MAX_DIM, MAX_POINTS, MAX_WORKERS}
 use Rattle.command_options.specs.declared.settings.Settings.{Settings}
 use Rattle.command_options.specs.declared.verb.Verb.{Verb}
 use Rattle.command_options.specs.declared.option_name.OptionName.{OptionName}
@@ -179,7 +179,7 @@ pub record IsInRange (verb : Verb) (s : Settings) : Type 0 where
   pub some_k : 1 ≤ s.k
   pub k : s.k ≤ most_k verb s.search
   pub some_caller : 1 ≤ s.callers
-  pub callers : s.callers ≤ 16
+  pub callers : s.callers ≤ MAX_CALLERS
   pub label : s.label ≤ 63
   -- what the command doesn't have is its default
   pub defaults : settings_of (kept verb s.kind (values_of s)) ≡ s

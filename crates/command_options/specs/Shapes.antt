@@ -75,6 +75,7 @@ is_built verbs.Query kind = true
 is_built verbs.Check kind = true
 is_built verbs.Make kind = true
 is_built verbs.Trial kind = true
+is_built verbs.Live kind = true
 is_built verb kind = false
 
 -- the same of options

@@ -6,8 +6,8 @@ ghost use Rattle.command_options.specs.Forms.{default_degree, greatest_degree, f
 use crate::shape::{is_exact, is_live, shape_kind};
 use crate::{OptionName, SettingName, Verb};
 use ann_defs::{
-    Element, Kind, MAX_BEAM, MAX_DEGREE, MAX_DIM, MAX_POINTS, MAX_WORKERS, OrderKind, StartKind,
-    Way,
+    Element, Kind, MAX_BEAM, MAX_CALLERS, MAX_DEGREE, MAX_DIM, MAX_POINTS, MAX_WORKERS, OrderKind,
+    StartKind, Way,
 };
 
 /// The numbers that an option may set.
@@ -140,7 +140,7 @@ pub fn form_of(verb: Verb, kind: Kind, option: OptionName) -> Form
         OptionName::Queries => number(100, SettingName::QueryCount, 1, 4096),
         OptionName::Search => number(64, SettingName::Search, 1, u64::from(MAX_BEAM)),
         OptionName::K => k_form(verb),
-        OptionName::Callers => number(2, SettingName::Callers, 1, 16),
+        OptionName::Callers => number(2, SettingName::Callers, 1, u64::from(MAX_CALLERS)),
         OptionName::Label => number(0, SettingName::Label, 0, 63),
         OptionName::Type => Form::OfElement {
             default: Element::U8,

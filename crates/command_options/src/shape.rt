@@ -176,7 +176,8 @@ pub fn is_built(verb: Verb, kind: Kind) -> bool
     ensures { result ≡ is_built verb kind }
 {
     match (verb, kind) {
-        (Verb::Build | Verb::Trial | Verb::Query | Verb::Check | Verb::Make, _) => true,
+        (Verb::Build | Verb::Trial | Verb::Query | Verb::Check | Verb::Make | Verb::Live, _) =>
+            true,
         _ => false,
     }
 }

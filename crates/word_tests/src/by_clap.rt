@@ -1,4 +1,4 @@
-//! Builds and a query, read by clap.
+//! Builds, a query and a build that is asked, read by clap.
 
 use ann_defs::Kind;
 use annbuild_clap::{Parsed, parse_by_clap};
@@ -47,5 +47,14 @@ fn odd_file_names_and_settings_are_read_by_clap(rt: HostRuntime) -> Result<(), F
     assert_eq!(rt; query.names.third, "x");
     assert_eq!(rt; query.settings.search, 64);
     assert_eq!(rt; query.settings.k, 3);
+    let words = ["live", "--callers", "16", "live", "--cap=2", "a b", "x"];
+    let parsed = read_twice(rt.alloc(), &words)?;
+    let live = parsed.request();
+    assert_eq!(rt; live.verb, Verb::Live);
+    assert_eq!(rt; live.names.first, "live");
+    assert_eq!(rt; live.names.second, "a b");
+    assert_eq!(rt; live.names.third, "x");
+    assert_eq!(rt; live.settings.kind, Kind::Vamana);
+    assert_eq!(rt; (live.settings.callers, live.settings.cap), (16, Some(2)));
     Ok(())
 }

@@ -3,8 +3,8 @@
 use ann_defs::{Kind, Near};
 use ann_shelf::Quantity;
 use annbuild_lines::{
-    BuiltLine, Fault, Rule, What, answered_line, built_line, checked_line, fault_line, made_line,
-    push_query_line, query_line_bytes,
+    BuiltLine, Fault, Moment, Rule, What, answered_line, batch_line_bytes, built_line,
+    checked_line, fault_line, made_line, push_batch_line, push_query_line, query_line_bytes,
 };
 use bin_files::PointsRule;
 use command_options::{Role, SettingName};
@@ -49,6 +49,19 @@ fn worked_query(rt: HostRuntime) -> Result<(), Fail> {
     let mut buffer = Vec::with_capacity(rt.alloc(), query_line_bytes(2))?;
     push_query_line(&mut buffer, 0, answers.as_slice());
     assert_eq!(rt; buffer.as_slice(), b"0 1:4 2:64\n".as_slice());
+    Ok(())
+}
+
+#[test]
+fn worked_answers_beside_a_build(rt: HostRuntime) -> Result<(), Fail> {
+    let during = [Near { dist: 4, id: 1 }];
+    let mut buffer = Vec::with_capacity(rt.alloc(), batch_line_bytes(1))?;
+    push_batch_line(&mut buffer, Moment::During, 0, 3, during.as_slice());
+    assert_eq!(rt; buffer.as_slice(), b"live 0 3 1:4\n".as_slice());
+    let after = [Near { dist: 100, id: 2 }];
+    let mut buffer = Vec::with_capacity(rt.alloc(), batch_line_bytes(1))?;
+    push_batch_line(&mut buffer, Moment::After, 1, 3, after.as_slice());
+    assert_eq!(rt; buffer.as_slice(), b"last 1 3 2:100\n".as_slice());
     Ok(())
 }
 

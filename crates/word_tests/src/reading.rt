@@ -3,6 +3,7 @@
 use ann_defs::{Element, Kind, OrderKind, StartKind, Way};
 use annbuild_words::{Asked, SettingName, Settings, Verb, read_words};
 use std::alloc::Global;
+use std::process::Abort;
 use std::test::Fail;
 
 /// What each row of a table should mean.
@@ -20,6 +21,34 @@ fn words_in(alloc: Global, text: &str) -> Result<Vec<String>, Fail> {
         words.push(String::from_str(alloc, word)?)?;
     }
     Ok(words)
+}
+
+/// Each text means what its row says.
+fn assert_means(rt: &impl Abort, alloc: Global, rows: &[(&str, Want)]) -> Result<(), Fail> {
+    for row in rows {
+        let (text, want) = *row;
+        let words = words_in(alloc, text)?;
+        match (read_words(words.as_slice()), want) {
+            (Asked::Nothing, Want::Nothing) => {}
+            (Asked::For(request), Want::Accepted(verb)) => {
+                assert_eq!(rt; request.verb, verb, "{text}");
+            }
+            (
+                Asked::Outside {
+                    name,
+                    value,
+                    least,
+                    greatest,
+                },
+                Want::Outside(wanted, number, low, high),
+            ) => {
+                assert_eq!(rt; name, wanted, "{text}");
+                assert_eq!(rt; (value, least, greatest), (number, low, high), "{text}");
+            }
+            _ => panic!(rt; "{text}"),
+        }
+    }
+    Ok(())
 }
 
 #[test]
@@ -179,29 +208,47 @@ fn worked_words(rt: HostRuntime) -> Result<(), Fail> {
             Want::Outside(SettingName::Search, 0, 1, 1024),
         ),
     ];
-    for (text, want) in rows {
-        let words = words_in(rt.alloc(), text)?;
-        match (read_words(words.as_slice()), want) {
-            (Asked::Nothing, Want::Nothing) => {}
-            (Asked::For(request), Want::Accepted(verb)) => {
-                assert_eq!(rt; request.verb, verb, "{text}");
-            }
-            (
-                Asked::Outside {
-                    name,
-                    value,
-                    least,
-                    greatest,
-                },
-                Want::Outside(wanted, number, low, high),
-            ) => {
-                assert_eq!(rt; name, wanted, "{text}");
-                assert_eq!(rt; (value, least, greatest), (number, low, high), "{text}");
-            }
-            _ => panic!(rt; "{text}"),
-        }
-    }
-    Ok(())
+    assert_means(&rt, rt.alloc(), &rows)
+}
+
+#[test]
+fn worked_words_of_live(rt: HostRuntime) -> Result<(), Fail> {
+    let rows = [
+        ("live a b", Want::Nothing),
+        ("live a b c d", Want::Nothing),
+        ("live a b c --bits 4", Want::Nothing),
+        ("live a b c --kind hnsw --bits 4", Want::Nothing),
+        ("live a b c", Want::Accepted(Verb::Live)),
+        (
+            "live --callers=16 a b --kind vamana c --search 4 --k 4 --order file",
+            Want::Accepted(Verb::Live),
+        ),
+        (
+            "live a b c --callers 16 --search 4 --k 5",
+            Want::Outside(SettingName::K, 5, 1, 4),
+        ),
+        (
+            "live a b c --callers 17",
+            Want::Outside(SettingName::Callers, 17, 1, 16),
+        ),
+        (
+            "live a b c --callers 0",
+            Want::Outside(SettingName::Callers, 0, 1, 16),
+        ),
+        (
+            "live a b c --workers 65 --degree 0 --kind hnsw",
+            Want::Outside(SettingName::Kind, 2, 1, 1),
+        ),
+        (
+            "live a b c --kind hnsw",
+            Want::Outside(SettingName::Kind, 2, 1, 1),
+        ),
+        (
+            "live a b c --kind nnd",
+            Want::Outside(SettingName::Kind, 3, 1, 1),
+        ),
+    ];
+    assert_means(&rt, rt.alloc(), &rows)
 }
 
 #[test]
@@ -218,7 +265,9 @@ fn what_the_program_does_not_have_is_no_request(rt: HostRuntime) -> Result<(), F
         "query a b c --label 0",
         "trial --kind nnd --type u8",
         "check a b --type u8",
-        "live a b c",
+        "live a b c --passes 1",
+        "live a b c --format 1",
+        "live a b c --type u8",
         "exact a b",
         "recall a b c",
         "forget a b c d",
@@ -298,5 +347,20 @@ fn settings_and_defaults(rt: HostRuntime) -> Result<(), Fail> {
         }
         _ => panic!(rt; "no query"),
     }
+    Ok(())
+}
+
+#[test]
+fn live_has_the_defaults_of_vamana(rt: HostRuntime) -> Result<(), Fail> {
+    let live = settings_in(rt.alloc(), "live a b c")?;
+    assert_eq!(rt; live.kind, Kind::Vamana);
+    assert_eq!(rt; (live.workers, live.callers), (4, 2));
+    assert_eq!(rt; (live.search, live.k), (64, 10));
+    assert_eq!(rt; live.pool, Way::Stealing);
+    assert_eq!(rt; live.order, OrderKind::Seeded);
+    assert_eq!(rt; live.start, StartKind::Medoid);
+    assert_eq!(rt; (live.degree, live.beam), (64, 128));
+    assert_eq!(rt; (live.num, live.den), (12, 10));
+    assert_eq!(rt; (live.seed, live.cap), (0, None));
     Ok(())
 }

@@ -1,6 +1,6 @@
 use Rattle.std.proofs.Common.{◌≡◌, ◌+◌, ◌++◌, take, vec_len}
 use Rattle.std.specs.Vec.{vec_capacity}
-use Rattle.annbuild_lines.proofs.query_line.push_bytes.Given as goal
+use Rattle.annbuild_lines.proofs.answers.push_bytes.Given as goal
 
 abbrev pub invariant-loop-byte : goal.invariant-loop-byte
 invariant-loop-byte l = record {
