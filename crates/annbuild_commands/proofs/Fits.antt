@@ -39,9 +39,11 @@ either_fault (Some x) v fault f g e = f e
 pub index_only : (X : List (List ℕ)) (i : Contents) (fault : Fault) → index_unfit X i ≡ Some fault → IsOfFiles fault
 index_only X i fault e = two_faults (i.count == length X) (i.dim == dim_of X) (Unfit Index Count i.count (length X)) (Unfit Index Dim i.dim (dim_of X)) fault tt tt e
 
+pub queries_only : (X Q : List (List ℕ)) (fault : Fault) → queries_unfit X Q ≡ Some fault → IsOfFiles fault
+queries_only X Q fault e = one_fault (dim_of Q == dim_of X) (Unfit Queries Dim (dim_of Q) (dim_of X)) fault tt e
+
 pub unfit_only : (X : List (List ℕ)) (i : Contents) (Q : List (List ℕ)) (fault : Fault) → unfit_in X i Q ≡ Some fault → IsOfFiles fault
-unfit_only X i Q fault e = either_fault (index_unfit X i) (queries_unfit X Q) fault (index_only X i fault)
-    (one_fault (dim_of Q == dim_of X) (Unfit Queries Dim (dim_of Q) (dim_of X)) fault tt) e
+unfit_only X i Q fault e = either_fault (index_unfit X i) (queries_unfit X Q) fault (index_only X i fault) (queries_only X Q fault) e
 
 none_one : (a : Bool) (x : Fault) → cond (not a) (Some x) None ≡ None → a ≡ true
 none_one false x e = cc
@@ -51,13 +53,15 @@ none_two : (a b : Bool) (x y : Fault) → cond (not a) (Some x) (cond (not b) (S
 none_two false b x y e = cc
 none_two true b x y e = (refl, none_one b y e)
 
+pub queries_fit : (X Q : List (List ℕ)) → queries_unfit X Q ≡ None → dim_of Q ≡ dim_of X
+queries_fit X Q e = eqb-true (dim_of Q) (dim_of X) (none_one (dim_of Q == dim_of X) (Unfit Queries Dim (dim_of Q) (dim_of X)) e)
+
 -- where nothing is unfit, the numbers are the same
 pub fits : (X : List (List ℕ)) (i : Contents) (Q : List (List ℕ)) → unfit_in X i Q ≡ None → (i.count ≡ length X) × (i.dim ≡ dim_of X) × (dim_of Q ≡ dim_of X)
 fits X i Q e =
     let both = or_none (index_unfit X i) (queries_unfit X Q) e in
     let two = none_two (i.count == length X) (i.dim == dim_of X) (Unfit Index Count i.count (length X)) (Unfit Index Dim i.dim (dim_of X)) both.0 in
-    let one = none_one (dim_of Q == dim_of X) (Unfit Queries Dim (dim_of Q) (dim_of X)) both.1 in
-    (eqb-true i.count (length X) two.0, eqb-true i.dim (dim_of X) two.1, eqb-true (dim_of Q) (dim_of X) one)
+    (eqb-true i.count (length X) two.0, eqb-true i.dim (dim_of X) two.1, queries_fit X Q both.1)
 
 -- the points and the index of files that are read
 module _ (base index : List ℕ) (X : PointSet) (i : Contents) (of_points : AreOf Base base X) (of_index : IsOf Index index i) where

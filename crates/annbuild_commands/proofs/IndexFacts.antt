@@ -1,14 +1,10 @@
 -- The index that a build gives, its line, and the words of its rows.
-use Rattle.std.proofs.Common.{◌≡◌, ◌≤◌, ℕ, List, length, refl, sym, ap, subst, arith, Result, Ok, Err, IfOk, OnOk, Some, None, Bool, true, false, cond, nat_lt}
-use Rattle.std.specs.Prelude.{◌&&◌, ◌==◌}
-use Rattle.std.proofs.lemmas.Bool.Decides.{nat_tests}
-use Rattle.ann_defs.proofs.Members.{and_both}
+use Rattle.std.proofs.Common.{◌≡◌, ◌≤◌, ℕ, List, length, refl, sym, ap, subst, Result, Ok, Err, IfOk, OnOk, Some, None, Bool, true, false, cond, nat_lt}
 use Rattle.ann_defs.specs.declared.kinds.Kind.{Kind}
 use Rattle.ann_defs.specs.declared.kinds.Kind.TheVariants.{Vamana, Hnsw, Nnd}
 use Rattle.ann_shelf.specs.declared.slip.Quantity.{Quantity}
 use Rattle.graph_rows.specs.Index.{Contents, text_of, edges_of, longest_of}
 use Rattle.graph_rows.specs.View.{kind_code}
-use Rattle.graph_rows.specs.WellFormed.{layers_fit}
 use Rattle.vamana_build.specs.declared.settings.VamanaSettings.{VamanaSettings}
 use Rattle.vamana_build.specs.Builds.{order_of}
 use Rattle.vamana_build.specs.VamanaIndex.{vamana_index}
@@ -25,7 +21,7 @@ use Rattle.command_options.specs.declared.verb.Verb.{Verb}
 use Rattle.command_options.specs.Settings.{IsInRange}
 use Rattle.command_options.specs.Shapes.{shape_kind}
 use Rattle.command_options.specs.Forms.{greatest_degree}
-use Rattle.annbuild_commands.specs.IndexOf.{AreForBuild, vamana_of, hnsw_of, nnd_of, hnsw_settings, levels_for, index_by, index_of, words_by, words_of, file_of, line_of, told_of, kind_at}
+use Rattle.annbuild_commands.specs.IndexOf.{AreForBuild, vamana_of, vamana_rows, vamana_batches, hnsw_of, nnd_of, hnsw_settings, levels_for, index_by, index_of, file_of, line_of, told_of, kind_at}
 use Rattle.annbuild_commands.specs.Limits.{limit_refusal}
 use Rattle.annbuild_commands.specs.Checking.{checked_of}
 
@@ -52,14 +48,6 @@ pub kind_back : (k : Kind) → kind_at (kind_code k) ≡ k
 kind_back Vamana = refl
 kind_back Hnsw = refl
 kind_back Nnd = refl
-
--- a kind has at most sixteen layers
-pub few_layers : (kind layers : ℕ) → layers_fit kind layers ≡ true → layers ≤ 16
-few_layers kind layers h =
-    elim (kind == 2) as (λ b. cond b (nat_lt 0 layers && nat_lt layers 17) (layers == 1) ≡ true → layers ≤ 16) [
-      | true ↦ λ e. grind (arith, nat_tests, and_both)
-      | false ↦ λ e. grind (arith, nat_tests)
-    ] h
 
 -- what tells of an index
 pub told_is : (i : Contents) (kind : Kind) (layers edges : ℕ) → kind_at i.kind ≡ kind → layers ≡ length i.layers → edges ≡ edges_of i
@@ -95,7 +83,7 @@ for_build v o same r = record {
 -- the builder's index is the one that a build must give
 pub same_index : (X : List (List ℕ)) (s : VamanaSettings) (o : Settings) → s.order ≡ o.order → s.start ≡ o.start → s.seed ≡ o.seed → s.degree ≡ o.degree → s.beam ≡ o.beam
     → s.alpha.num ≡ o.num → s.alpha.den ≡ o.den → s.cap ≡ o.cap → vamana_index X s ≡ vamana_of X o
-unfolding order_of vamana_of
+unfolding order_of vamana_of vamana_rows vamana_batches
 same_index X s o a b c d e f g h = λ i. vamana_of X (record o { order = a i; start = b i; seed = c i; degree = d i; beam = e i; num = f i; den = g i; cap = h i })
 
 -- the same of the builder of lists
@@ -108,9 +96,6 @@ same_lists X s o a b c d e f g h i j = λ k. nnd_of X (record o { start = a k; s
 pub index_is : (X : List (List ℕ)) (o : Settings) (k : Kind) → o.kind ≡ k → index_by k X o ≡ index_of X o
 unfolding index_of
 index_is X o k e = ap (λ (j : Kind). index_by j X o) (sym e)
-
-pub words_are : (n : ℕ) (o : Settings) (k : Kind) → o.kind ≡ k → words_by k n o ≡ words_of n o
-words_are n o k e = ap (λ (j : Kind). words_by j n o) (sym e)
 
 -- the layers of equal points, settings and levels
 pub same_layers : (X Y : List (List ℕ)) (s t : HnswSettings) (l m : List ℕ) → X ≡ Y → s ≡ t → l ≡ m → hnsw_index X s l ≡ hnsw_index Y t m

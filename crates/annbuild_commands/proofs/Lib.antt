@@ -8,3 +8,6 @@ pub mod CheckFacts
 pub mod Unread
 pub mod MakeFacts
 pub mod TrialFacts
+pub mod FirstWord
+pub mod LiveFacts
+pub mod Answered

@@ -11,6 +11,7 @@ use Rattle.annbuild_commands.specs.Querying.{querying}
 use Rattle.annbuild_commands.specs.Checking.{checking}
 use Rattle.annbuild_commands.specs.Making.{making}
 use Rattle.annbuild_commands.specs.Trying.{trying}
+use Rattle.annbuild_commands.specs.Living.{living}
 
 -- a command as data; one that the program doesn't have does nothing
 abbrev pub doing_by : Verb → (first second third fourth : List ℕ) → Settings → Doing
@@ -19,6 +20,7 @@ doing_by verbs.Query base index queries fourth s = querying base index queries s
 doing_by verbs.Check base index third fourth s = checking base index
 doing_by verbs.Make base second third fourth s = making base s
 doing_by verbs.Trial first second third fourth s = trying s
+doing_by verbs.Live base index queries fourth s = living base index queries s
 doing_by verb first second third fourth s = writing None []
 
 abbrev pub doing_of : Command → Doing

@@ -45,13 +45,26 @@ pub record AreForBuild (o : Settings) : Type 0 where
   pub leaf : o.leaf ≤ 1024
   pub rounds : o.rounds ≤ 64
 
+-- the order of insertion of a Vamana build, and the start of its searches
+abbrev pub vamana_order : List (List ℕ) → Settings → List ℕ
+vamana_order X o = insertion_order X o.order o.start o.seed
+
+abbrev pub vamana_start : List (List ℕ) → Settings → ℕ
+vamana_start X o = slice_index (vamana_order X o) 0
+
+-- how many batches it has
+unfoldable pub vamana_batches : List (List ℕ) → Settings → ℕ
+vamana_batches X o = total_of (length X) (cap_of (length X) o.cap)
+
+-- its rows after v batches
+unfoldable pub vamana_rows : List (List ℕ) → Settings → ℕ → List (List ℕ)
+vamana_rows X o v =
+    let b : Build = record { points = X; start = vamana_start X o; beam = o.beam; num = o.num; den = o.den; degree = o.degree; passes = 1 } in
+    graph_after b (vamana_order X o) (cap_of (length X) o.cap) v
+
 -- the Vamana index of a point set: the order, start, seed, degree, beam, alpha and cap of the settings decide it
 unfoldable pub vamana_of : List (List ℕ) → Settings → Contents
-vamana_of X o =
-    let ids = insertion_order X o.order o.start o.seed in
-    let cap = cap_of (length X) o.cap in
-    let b : Build = record { points = X; start = slice_index ids 0; beam = o.beam; num = o.num; den = o.den; degree = o.degree; passes = 1 } in
-    flat_contents 1 (length X) (dim_of X) o.degree (slice_index ids 0) (graph_after b ids cap (total_of (length X) cap))
+vamana_of X o = flat_contents 1 (length X) (dim_of X) o.degree (vamana_start X o) (vamana_rows X o (vamana_batches X o))
 
 -- the levels of so many points in an HNSW index: the seed, bits and greatest level of the settings decide them
 abbrev pub levels_for : ℕ → Settings → List ℕ

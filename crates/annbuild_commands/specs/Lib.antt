@@ -6,6 +6,7 @@ pub mod Querying
 pub mod Checking
 pub mod Making
 pub mod Trying
+pub mod Living
 pub mod Commands
 pub mod Ending
 pub mod Promises

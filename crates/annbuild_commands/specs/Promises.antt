@@ -14,6 +14,12 @@ use Rattle.command_shapes.specs.Clauses.{IsQuietOf, IsShownOrNoMemory}
 use Rattle.command_shapes.specs.Ends.{Ends}
 use Rattle.annbuild_commands.specs.Ending.{OnCommand, TellsOf}
 
+-- how what words ask for ends
+pub record IsAnswered (asked : Meaning) (old new : Shown) (had got : Got) (fault : Option Fault) : Type 0 where
+  pub usage : (fault ≡ Some Usage) ↔ (asked ≡ Nothing')
+  pub setting : (name : SettingName) (value least greatest : ℕ) → (fault ≡ Some (Setting name value least greatest)) ↔ (asked ≡ Outside' name value least greatest)
+  pub ends : OnCommand asked (λ d. Ends d old new had got fault)
+
 pub record Promises (asked : Meaning) (old new : Shown) (had got had_told told_then : Got) (fault : Option Fault) : Type 0 where
   -- Usage comes exactly where the words mean no request
   pub usage : (fault ≡ Some Usage) ↔ (asked ≡ Nothing')

@@ -9,7 +9,7 @@ ghost use Rattle.ann_shelf.specs.Written.{Got};
 ghost use Rattle.command_shapes.specs.Doing.{Doing};
 ghost use Rattle.command_shapes.specs.Ends.{Ends, HaveRead, OnlyRead};
 ghost use Rattle.command_shapes.specs.Reading.{AreOf, IsOf};
-ghost use Rattle.annbuild_commands.specs.Fitting.{index_unfit, unfit_in};
+ghost use Rattle.annbuild_commands.specs.Fitting.{index_unfit, queries_unfit, unfit_in};
 ghost use Rattle.annbuild_commands.specs.Querying.{querying};
 
 use ann_shelf::Shelf;
@@ -51,6 +51,21 @@ pub(crate) fn unfit_index(points: &Points, index: &Index) -> Option<Fault>
     None
 }
 
+/// The dimension of queries, where it doesn't fit the points.
+pub(crate) fn unfit_queries(points: &Points, queries: &Points) -> Option<Fault>
+    ensures { result ≡ queries_unfit points.now.vectors queries.now.vectors }
+{
+    if queries.dim() == points.dim() {
+        return None;
+    }
+    Some(Fault::Unfit {
+        file: Role::Queries,
+        what: What::Dim,
+        found: u64::from(queries.dim()),
+        wanted: u64::from(points.dim()),
+    })
+}
+
 /// The first numbers of the three that don't fit together.
 fn unfit(points: &Points, index: &Index, queries: &Points) -> Option<Fault>
     ensures { result ≡ unfit_in points.now.vectors (contents index.now) queries.now.vectors }
@@ -58,15 +73,7 @@ fn unfit(points: &Points, index: &Index, queries: &Points) -> Option<Fault>
     if let Some(fault) = unfit_index(points, index) {
         return Some(fault);
     }
-    if queries.dim() != points.dim() {
-        return Some(Fault::Unfit {
-            file: Role::Queries,
-            what: What::Dim,
-            found: u64::from(queries.dim()),
-            wanted: u64::from(points.dim()),
-        });
-    }
-    None
+    unfit_queries(points, queries)
 }
 
 /// Reads the three files, in their order.

@@ -1,10 +1,10 @@
 //! The pool of a command, and the limits of what settings ask for.
 ghost use Rattle.std.specs.Prelude.{◌≡◌, ◌*◌, ◌<◌, ◌≤◌, Some, None, IfErr, OnOk};
-ghost use Rattle.ann_defs.specs.declared.limits.TheConstants.{MAX_CELLS, MAX_WORDS, MAX_WORKERS};
+ghost use Rattle.ann_defs.specs.declared.limits.TheConstants.{MAX_ANSWERS, MAX_CELLS, MAX_WORDS, MAX_WORKERS};
 ghost use Rattle.steal_pool.specs.Pools.{pool_workers};
-ghost use Rattle.annbuild_commands.specs.Limits.{limit_refusal, words_refusal, cells_refusal};
+ghost use Rattle.annbuild_commands.specs.Limits.{limit_refusal, words_refusal, cells_refusal, answers_refusal};
 
-use ann_defs::{MAX_CELLS, MAX_WORDS};
+use ann_defs::{MAX_ANSWERS, MAX_CELLS, MAX_WORDS};
 use ann_shelf::Quantity;
 use annbuild_lines::Fault;
 use annbuild_words::Settings;
@@ -41,6 +41,19 @@ pub(crate) fn check_cells(count: u32, dim: u32) -> Result<(), Fault>
         Quantity::Cells,
         u64::from(count) * u64::from(dim),
         MAX_CELLS,
+    )
+}
+
+/// Refuses more answers, so many to each query, than are kept beside a build.
+pub(crate) fn check_answers(count: u32, k: u32) -> Result<(), Fault>
+    ensures few { OnOk result (count * k ≤ MAX_ANSWERS) }
+    ensures ok { OnOk result (answers_refusal count k ≡ None) }
+    ensures err { IfErr result (λ fault. answers_refusal count k ≡ Some fault) }
+{
+    check_limit(
+        Quantity::Answers,
+        u64::from(count) * u64::from(k),
+        MAX_ANSWERS,
     )
 }
 

@@ -1,17 +1,17 @@
 //! A request that is done by calls that return.
-ghost use Rattle.std.specs.Prelude.{◌≡◌, map, string_bytes};
+ghost use Rattle.std.specs.Prelude.{◌≡◌, false, map, string_bytes};
 ghost use Rattle.annbuild_words.specs.Asked.{request_of};
 ghost use Rattle.annbuild_lines.specs.Codes.{code_of};
-ghost use Rattle.annbuild_commands.specs.Ending.{IsNoCommand};
+ghost use Rattle.annbuild_commands.specs.Ending.{IsNoCommand, begins_live};
 ghost use Rattle.annbuild_commands.specs.Promises.{Promises};
 
-use crate::carried::carry_out;
+use crate::carried::{do_plain, settle};
 use ann_shelf::{Gate, Out, Shelf};
 use annbuild_lines::Status;
 use std::alloc::Global;
 use std::thread::Threads;
 
-/// Does what the words ask for. It waits for nothing, so it always returns.
+/// Does what the words ask for, where the first isn't `live`. It waits for nothing, so it always returns.
 ///
 /// `words` are those after the program's own name. Where `build` ends with code 0, the index file holds, byte for byte,
 /// the index that the definition gives for the points whose text the data file held, whatever the number of workers and
@@ -26,10 +26,12 @@ pub fn run_plain<R: Threads + Sync, F: Shelf, O: Out, G: Gate + Sync>(
     err: &mut O,
     gate: &G,
 ) -> Status
+    requires { begins_live (map (λ w. string_bytes w) words.now) ≡ false }
     ensures code { result.code ≡ code_of result.fault }
     // For words that mean no command shelf and output are not touched, so nothing is read either.
     ensures untouched { IsNoCommand (request_of (map (λ w. string_bytes w) words.now)) → (shelf.new ≡ shelf.old) × (out.new ≡ out.old) }
     ensures promises { Promises (request_of (map (λ w. string_bytes w) words.now)) (F.shown shelf.old) (F.shown shelf.new) (O.got out.old) (O.got out.new) (O.got err.old) (O.got err.new) result.fault }
 {
-    carry_out(rt, alloc, words, shelf, out, err, gate)
+    let done = do_plain(rt, alloc, words, shelf, out, gate);
+    settle(err, done)
 }

@@ -21,7 +21,7 @@ use steal_pool::Rounds;
 use vamana_build::{Plan, Vamana, VamanaSettings};
 
 /// The settings of the builder.
-fn settings_of(options: &Settings) -> VamanaSettings
+pub(crate) fn settings_of(options: &Settings) -> VamanaSettings
     requires { AreForBuild options.now }
     ensures order { result.order ≡ options.now.order }
     ensures start { result.start ≡ options.now.start }
@@ -86,6 +86,13 @@ fn index_on<R: Threads + Sync, P: Rounds, G: Gate + Sync>(
     Ok(builder.into_index())
 }
 
+/// The words that the rows of the Vamana index of points take.
+pub(crate) fn words_for(points: &Points, options: &Settings) -> u64
+    ensures { result ≡ vamana_words (length points.now.vectors) options.now }
+{
+    u64::from(points.count()) * (u64::from(options.degree) + 1)
+}
+
 /// The Vamana index of points, built on the pool that settings ask for, if its rows take no more words than may be.
 pub(crate) fn vamana_index<R: Threads + Sync, G: Gate + Sync>(
     rt: &R,
@@ -100,8 +107,7 @@ pub(crate) fn vamana_index<R: Threads + Sync, G: Gate + Sync>(
     ensures well_formed { IfOk result (λ i. IsWellFormed (contents i)) }
     ensures failed { IfErr result (λ fault. (words_refusal (vamana_words (length points.now.vectors) options.now) ≡ Some fault) ⊎ (fault ≡ NoMemoryFault)) }
 {
-    let words = u64::from(points.count()) * (u64::from(options.degree) + 1);
-    check_words(words)?;
+    check_words(words_for(points, options))?;
     let mut pool = pool_for(options, points.count());
     match index_on(rt, alloc, points, options, &mut pool, gate) {
         Ok(index) => Ok(index),

@@ -1,5 +1,5 @@
 -- How storing and printing end.
-use Rattle.std.proofs.Common.{◌≡◌, ◌∙◌, ℕ, List, [], refl, ap, inl, inr, Option, Some, None, IfSome}
+use Rattle.std.proofs.Common.{◌≡◌, ◌∙◌, ℕ, List, [], refl, ap, inl, inr, Option, Some, None, IfSome, true, Bool}
 use Rattle.std.specs.Prelude.{◌⊎◌}
 use Rattle.ann_shelf.specs.declared.slip.Slip.{Slip}
 use Rattle.ann_shelf.specs.declared.slip.Slip.TheVariants.{Failed, NoMemory as NoSlipMemory}
@@ -12,15 +12,19 @@ use Rattle.command_options.specs.declared.role.Role.TheVariants.{Base, Index, Qu
 use Rattle.bin_files.proofs.Pieces.{told_then}
 use Rattle.ann_shelf.specs.Shown.{Shown}
 use Rattle.ann_shelf.specs.Written.{Got}
-use Rattle.command_shapes.specs.Doing.{Stored, files_with}
+use Rattle.command_shapes.specs.Doing.{Stored, Doing, files_with}
 use Rattle.command_shapes.specs.Clauses.{IsToldBy, HasCauseOf, LeavesOf, LeavesOutOf, IsBeforeWriting}
 use Rattle.command_shapes.specs.Faults.{write_fault_of}
 use Rattle.command_shapes.specs.Ends.{Ends}
-use Rattle.command_shapes.specs.Writing.{writing, stored_as, IsFile, IsOfPrinting, LeavesPieces, Printed}
+use Rattle.command_shapes.specs.Writing.{writing, writing_runs, stored_as, IsFile, IsOfPrinting, LeavesPieces, Printed}
 use Rattle.command_shapes.proofs.Told.{told_here}
 
-module _ (s : Option Stored) (pieces : List (List ℕ)) where
-  print_tells : (outs : Type 0) (files : Files) (fault : Fault) → IsOfPrinting outs fault → IsToldBy (writing s pieces) files fault
+-- one run that may be, and its pieces
+module _ (s : Option Stored) (lawful : List ℕ → Bool) (runs : List ℕ → List (List ℕ)) (run : List ℕ) (may : lawful run ≡ true) where
+  abbrev doing : Doing
+  doing = writing_runs s lawful runs
+
+  print_tells : (outs : Type 0) (files : Files) (fault : Fault) → IsOfPrinting outs fault → IsToldBy doing files fault
   print_tells outs files Usage h = h
   print_tells outs files (Setting n v l g) h = h
   print_tells outs files (Read role) h = h
@@ -30,7 +34,7 @@ module _ (s : Option Stored) (pieces : List (List ℕ)) where
   print_tells outs files NoMemory h = tt
   print_tells outs files (TooLarge n v l) h = absurd h
 
-  print_cause : (reads writes : List ℕ → Type 0) (outs : Type 0) (fault : Fault) → IsOfPrinting outs fault → HasCauseOf (writing s pieces) reads writes outs fault
+  print_cause : (reads writes : List ℕ → Type 0) (outs : Type 0) (fault : Fault) → IsOfPrinting outs fault → HasCauseOf doing reads writes outs fault
   print_cause reads writes outs Usage h = h
   print_cause reads writes outs (Setting n v l g) h = h
   print_cause reads writes outs (Read role) h = h
@@ -47,7 +51,7 @@ module _ (s : Option Stored) (pieces : List (List ℕ)) where
   print_cause reads writes outs (TooLarge n v l) h = tt
 
   print_leaves : (outs wants : Type 0) (files : Files) (fault : Fault) → IsOfPrinting outs fault → (fault ≡ NoMemory → (files_with s files ≡ files) ⊎ wants)
-      → LeavesOf (writing s pieces) wants files (files_with s files) fault
+      → LeavesOf doing wants files (files_with s files) fault
   print_leaves outs wants files Usage h m = absurd h
   print_leaves outs wants files (Setting n v l g) h m = absurd h
   print_leaves outs wants files (Read role) h m = absurd h
@@ -60,10 +64,10 @@ module _ (s : Option Stored) (pieces : List (List ℕ)) where
   print_leaves outs wants files (Write Fresh) h m = absurd h
   print_leaves outs wants files (Write Labels) h m = absurd h
   print_leaves outs wants files (Write Output) h m = refl
-  print_leaves outs wants files NoMemory h m = elim (m refl) as (λ _. LeavesOf (writing s pieces) wants files (files_with s files) NoMemory) [ inl e ↦ inl e | inr w ↦ inr (w, refl) ]
+  print_leaves outs wants files NoMemory h m = elim (m refl) as (λ _. LeavesOf doing wants files (files_with s files) NoMemory) [ inl e ↦ inl e | inr w ↦ inr (w, refl) ]
   print_leaves outs wants files (TooLarge n v l) h m = absurd h
 
-  print_out : (wants : Type 0) (files : Files) (before after : List ℕ) (fault : Fault) → LeavesPieces wants before after pieces fault → LeavesOutOf (writing s pieces) wants files before after fault
+  print_out : (wants : Type 0) (files : Files) (before after : List ℕ) (fault : Fault) → LeavesPieces wants before after (runs run) fault → LeavesOutOf doing wants files before after fault
   print_out wants files before after Usage h = absurd h
   print_out wants files before after (Setting n v l g) h = absurd h
   print_out wants files before after (Read role) h = absurd h
@@ -75,8 +79,8 @@ module _ (s : Option Stored) (pieces : List (List ℕ)) where
   print_out wants files before after (Write Gone) h = absurd h
   print_out wants files before after (Write Fresh) h = absurd h
   print_out wants files before after (Write Labels) h = absurd h
-  print_out wants files before after (Write Output) h = ([], refl, h)
-  print_out wants files before after NoMemory h = elim h as (λ _. LeavesOutOf (writing s pieces) wants files before after NoMemory) [ inl e ↦ inl e | inr got ↦ inr ([], refl, got) ]
+  print_out wants files before after (Write Output) h = (run, may, h)
+  print_out wants files before after NoMemory h = elim h as (λ _. LeavesOutOf doing wants files before after NoMemory) [ inl e ↦ inl e | inr got ↦ inr (run, may, got) ]
   print_out wants files before after (TooLarge n v l) h = absurd h
 
   print_late : (outs : Type 0) (fault : Fault) → IsOfPrinting outs fault → IsBeforeWriting fault → ⊥
@@ -90,19 +94,19 @@ module _ (s : Option Stored) (pieces : List (List ℕ)) where
   print_late outs (TooLarge n v l) h b = h
 
   -- printing, once the file that is stored is whole: where there is one, only the output itself wants memory
-  pub then_printed : (old new : Shown) (had got : Got) (fault : Option Fault) → IfSome old.held (λ files. new.held ≡ Some (files_with s files))
-      → ((files : Files) → fault ≡ Some NoMemory → (files_with s files ≡ files) ⊎ Rose had.wants got.wants) → Printed pieces had got fault → Ends (writing s pieces) old new had got fault
-  then_printed old new had got None whole memory printed = record {
+  pub then_run_printed : (old new : Shown) (had got : Got) (fault : Option Fault) → IfSome old.held (λ files. new.held ≡ Some (files_with s files))
+      → ((files : Files) → fault ≡ Some NoMemory → (files_with s files ≡ files) ⊎ Rose had.wants got.wants) → Printed (runs run) had got fault → Ends doing old new had got fault
+  then_run_printed old new had got None whole memory printed = record {
     done = told_then old.held whole (λ files is. record {
       accepted = refl;
       stored = (tt, is);
-      printed = told_then had.written printed.whole (λ text e. ([], refl, e));
+      printed = told_then had.written printed.whole (λ text e. (run, may, e));
     });
     failed = tt;
     cause = tt;
     as_found = tt;
   }
-  then_printed old new had got (Some fault) whole memory printed = record {
+  then_run_printed old new had got (Some fault) whole memory printed = record {
     done = tt;
     failed = told_then old.held whole (λ files is. record {
       tells = print_tells (Rose had.faults got.faults) files fault printed.cause;
@@ -115,12 +119,17 @@ module _ (s : Option Stored) (pieces : List (List ℕ)) where
     as_found = λ b. absurd (print_late (Rose had.faults got.faults) fault printed.cause b);
   }
 
-module _ (role : Role) (name text : List ℕ) (pieces : List (List ℕ)) (file : IsFile role) where
-  store_tells : (files : Files) (slip : Slip) → IsToldBy (writing (Some (stored_as role name text)) pieces) files (write_fault_of role slip)
+-- the same where the files decide the pieces
+pub then_printed : (s : Option Stored) (pieces : List (List ℕ)) (old new : Shown) (had got : Got) (fault : Option Fault) → IfSome old.held (λ files. new.held ≡ Some (files_with s files))
+    → ((files : Files) → fault ≡ Some NoMemory → (files_with s files ≡ files) ⊎ Rose had.wants got.wants) → Printed pieces had got fault → Ends (writing s pieces) old new had got fault
+then_printed s pieces old new had got fault whole memory printed = then_run_printed s (λ run. true) (λ run. pieces) [] refl old new had got fault whole memory printed
+
+module _ (role : Role) (name text : List ℕ) (lawful : List ℕ → Bool) (runs : List ℕ → List (List ℕ)) (file : IsFile role) where
+  store_tells : (files : Files) (slip : Slip) → IsToldBy (writing_runs (Some (stored_as role name text)) lawful runs) files (write_fault_of role slip)
   store_tells files Failed = refl
   store_tells files NoSlipMemory = tt
 
-  store_cause : (reads writes : List ℕ → Type 0) (outs : Type 0) (slip : Slip) → (slip ≡ Failed → writes name) → HasCauseOf (writing (Some (stored_as role name text)) pieces) reads writes outs (write_fault_of role slip)
+  store_cause : (reads writes : List ℕ → Type 0) (outs : Type 0) (slip : Slip) → (slip ≡ Failed → writes name) → HasCauseOf (writing_runs (Some (stored_as role name text)) lawful runs) reads writes outs (write_fault_of role slip)
   store_cause reads writes outs Failed m = inr (refl, m refl)
   store_cause reads writes outs NoSlipMemory m = tt
 
@@ -128,41 +137,41 @@ module _ (role : Role) (name text : List ℕ) (pieces : List (List ℕ)) (file :
   store_late Failed b = b
   store_late NoSlipMemory b = b
 
-store_leaves : (role : Role) (name text : List ℕ) (pieces : List (List ℕ)) → IsFile role → (wants : Type 0) (files : Files) (slip : Slip)
-    → LeavesOf (writing (Some (stored_as role name text)) pieces) wants files files (write_fault_of role slip)
-store_leaves Base name text pieces file wants files Failed = refl
-store_leaves Index name text pieces file wants files Failed = refl
-store_leaves Queries name text pieces file wants files Failed = refl
-store_leaves Gone name text pieces file wants files Failed = refl
-store_leaves Fresh name text pieces file wants files Failed = refl
-store_leaves Labels name text pieces file wants files Failed = refl
-store_leaves Output name text pieces file wants files Failed = absurd file
-store_leaves role name text pieces file wants files NoSlipMemory = inl refl
+store_leaves : (role : Role) (name text : List ℕ) (lawful : List ℕ → Bool) (runs : List ℕ → List (List ℕ)) → IsFile role → (wants : Type 0) (files : Files) (slip : Slip)
+    → LeavesOf (writing_runs (Some (stored_as role name text)) lawful runs) wants files files (write_fault_of role slip)
+store_leaves Base name text lawful runs file wants files Failed = refl
+store_leaves Index name text lawful runs file wants files Failed = refl
+store_leaves Queries name text lawful runs file wants files Failed = refl
+store_leaves Gone name text lawful runs file wants files Failed = refl
+store_leaves Fresh name text lawful runs file wants files Failed = refl
+store_leaves Labels name text lawful runs file wants files Failed = refl
+store_leaves Output name text lawful runs file wants files Failed = absurd file
+store_leaves role name text lawful runs file wants files NoSlipMemory = inl refl
 
-store_out : (role : Role) (name text : List ℕ) (pieces : List (List ℕ)) → IsFile role → (wants : Type 0) (files : Files) (before : List ℕ) (slip : Slip)
-    → LeavesOutOf (writing (Some (stored_as role name text)) pieces) wants files before before (write_fault_of role slip)
-store_out Base name text pieces file wants files before Failed = refl
-store_out Index name text pieces file wants files before Failed = refl
-store_out Queries name text pieces file wants files before Failed = refl
-store_out Gone name text pieces file wants files before Failed = refl
-store_out Fresh name text pieces file wants files before Failed = refl
-store_out Labels name text pieces file wants files before Failed = refl
-store_out Output name text pieces file wants files before Failed = absurd file
-store_out role name text pieces file wants files before NoSlipMemory = inl refl
+store_out : (role : Role) (name text : List ℕ) (lawful : List ℕ → Bool) (runs : List ℕ → List (List ℕ)) → IsFile role → (wants : Type 0) (files : Files) (before : List ℕ) (slip : Slip)
+    → LeavesOutOf (writing_runs (Some (stored_as role name text)) lawful runs) wants files before before (write_fault_of role slip)
+store_out Base name text lawful runs file wants files before Failed = refl
+store_out Index name text lawful runs file wants files before Failed = refl
+store_out Queries name text lawful runs file wants files before Failed = refl
+store_out Gone name text lawful runs file wants files before Failed = refl
+store_out Fresh name text lawful runs file wants files before Failed = refl
+store_out Labels name text lawful runs file wants files before Failed = refl
+store_out Output name text lawful runs file wants files before Failed = absurd file
+store_out role name text lawful runs file wants files before NoSlipMemory = inl refl
 
 -- a file that couldn't be stored
-pub store_failed : (role : Role) (name text : List ℕ) (pieces : List (List ℕ)) → IsFile role → (old new : Shown) (had : Got) (slip : Slip)
+pub store_failed : (role : Role) (name text : List ℕ) (lawful : List ℕ → Bool) (runs : List ℕ → List (List ℕ)) → IsFile role → (old new : Shown) (had : Got) (slip : Slip)
     → new.held ≡ old.held → (slip ≡ Failed → Rose (old.write_faults name) (new.write_faults name))
-    → Ends (writing (Some (stored_as role name text)) pieces) old new had had (Some (write_fault_of role slip))
-store_failed role name text pieces file old new had slip same rose = record {
+    → Ends (writing_runs (Some (stored_as role name text)) lawful runs) old new had had (Some (write_fault_of role slip))
+store_failed role name text lawful runs file old new had slip same rose = record {
   done = tt;
   failed = told_here old.held (λ files is. record {
-    tells = store_tells role name text pieces file files slip;
-    leaves = (files, same ∙ is, store_leaves role name text pieces file (Rose had.wants had.wants) files slip);
-    leaves_out = told_here had.written (λ before e. (before, e, store_out role name text pieces file (Rose had.wants had.wants) files before slip));
+    tells = store_tells role name text lawful runs file files slip;
+    leaves = (files, same ∙ is, store_leaves role name text lawful runs file (Rose had.wants had.wants) files slip);
+    leaves_out = told_here had.written (λ before e. (before, e, store_out role name text lawful runs file (Rose had.wants had.wants) files before slip));
     in_order = inl refl;
     only_accepted = inl refl;
   });
-  cause = store_cause role name text pieces file (λ n. Rose (old.read_faults n) (new.read_faults n)) (λ n. Rose (old.write_faults n) (new.write_faults n)) (Rose had.faults had.faults) slip rose;
-  as_found = λ b. absurd (store_late role name text pieces file slip b);
+  cause = store_cause role name text lawful runs file (λ n. Rose (old.read_faults n) (new.read_faults n)) (λ n. Rose (old.write_faults n) (new.write_faults n)) (Rose had.faults had.faults) slip rose;
+  as_found = λ b. absurd (store_late role name text lawful runs file slip b);
 }

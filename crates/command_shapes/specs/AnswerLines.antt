@@ -8,6 +8,10 @@ use Rattle.annbuild_lines.specs.Lines.{query_text}
 unfoldable pub answer_line : ℕ → List Near → List ℕ
 answer_line number answer = query_text number answer
 
--- the lines of answers, numbered from a first number on
-unfoldable pub lines_from : ℕ → List (List Near) → List (List ℕ)
-lines_from first answers = map (λ e. answer_line e.0 e.1) (enumerate_from first answers)
+-- the lines of items, numbered from a first number on
+unfoldable pub numbered_lines : {A : Type 0} → (line : ℕ → A → List ℕ) → ℕ → List A → List (List ℕ)
+numbered_lines line first items = map (λ e. line e.0 e.1) (enumerate_from first items)
+
+-- the lines of answers
+abbrev pub lines_from : ℕ → List (List Near) → List (List ℕ)
+lines_from first answers = numbered_lines answer_line first answers

@@ -11,4 +11,4 @@ mod storing;
 pub use printing::{print, print_both};
 pub use reading::{read_index_of, read_points_of};
 pub use rounds::answer_and_print;
-pub use storing::{Storable, store_and_print};
+pub use storing::{Storable, store, store_and_print};

@@ -1,13 +1,14 @@
 //! Storing a file, and printing what tells of it.
-ghost use Rattle.std.specs.Prelude.{◌≡◌, List, ℕ, Some, [], ◌∷◌, IfSome, OnOk, OnErr, IsErrOf};
+ghost use Rattle.std.specs.Prelude.{◌≡◌, Bool, List, ℕ, Some, [], ◌∷◌, IfErr, IfSome, OnOk, OnErr, IsErrOf};
 ghost use Rattle.ann_shelf.specs.Files.{with_file};
 ghost use Rattle.ann_shelf.specs.Shown.{OnlyWrites};
+ghost use Rattle.ann_shelf.specs.Written.{Got};
 ghost use Rattle.bin_files.specs.Points.{text as points_text};
 ghost use Rattle.graph_rows.specs.Index.{text_of};
 ghost use Rattle.graph_rows.specs.View.{contents};
 ghost use Rattle.graph_rows.specs.WellFormed.{IsWellFormed};
 ghost use Rattle.command_shapes.specs.Ends.{Ends, fault_in};
-ghost use Rattle.command_shapes.specs.Writing.{writing, stored_as, IsFile};
+ghost use Rattle.command_shapes.specs.Writing.{writing, writing_runs, stored_as, IsFile};
 
 use crate::faults::write_fault;
 use crate::printing::print;
@@ -53,6 +54,25 @@ impl Storable for Points {
     }
 }
 
+/// Stores a file with this role. Where that fails the command ends, whatever it would have printed.
+pub fn store<F: Shelf, S: Storable>(
+    shelf: &mut F,
+    role: Role,
+    name: &str,
+    what: &S,
+) -> Result<(), Fault>
+    requires file { IsFile role }
+    requires fits { S.fits what.now }
+    ensures stored { OnOk result (IfSome (F.shown shelf.old).held (λ files. (F.shown shelf.new).held ≡ Some (with_file files name.now (S.text what.now)))) }
+    ensures failed { IfErr result (λ fault. (had : Got) (lawful : List ℕ → Bool) (pieces : List ℕ → List (List ℕ)) →
+        Ends (writing_runs (Some (stored_as role name.now (S.text what.now))) lawful pieces) (F.shown shelf.old) (F.shown shelf.new) had had (Some fault)) }
+{
+    match what.write_to(shelf, name) {
+        Ok(()) => Ok(()),
+        Err(slip) => Err(write_fault(role, slip)),
+    }
+}
+
 /// Stores a file with this role, and then prints a line.
 pub fn store_and_print<F: Shelf, O: Out, S: Storable>(
     shelf: &mut F,
@@ -68,8 +88,6 @@ pub fn store_and_print<F: Shelf, O: Out, S: Storable>(
         (F.shown shelf.old) (F.shown shelf.new)
         (O.got out.old) (O.got out.new) (fault_in result) }
 {
-    match what.write_to(shelf, name) {
-        Ok(()) => print(out, line),
-        Err(slip) => Err(write_fault(role, slip)),
-    }
+    store(shelf, role, name, what)?;
+    print(out, line)
 }

@@ -6,16 +6,16 @@ use Rattle.annbuild_commands.specs.Commands.{doing_by, doing_of}
 use Rattle.annbuild_commands.proofs.request.done.Goals as goal
 
 pub build-requires : goal.build-requires
-build-requires g c = let h = subst (λ v. IsInRange v c.request.result.settings) c.in-Build.is (subst IsAllowed (sym c.request.ensures) c.requires).in_range in search rules
+build-requires g c = let h = subst (λ v. IsInRange v c.request.result.settings) c.in-Build.is (subst IsAllowed (sym c.request.ensures) c.requires.allowed).in_range in search rules
 
 pub query-requires : goal.query-requires
-query-requires g c = let h = subst (λ v. IsInRange v c.request.result.settings) c.in-Query.is (subst IsAllowed (sym c.request.ensures) c.requires).in_range in search rules
+query-requires g c = let h = subst (λ v. IsInRange v c.request.result.settings) c.in-Query.is (subst IsAllowed (sym c.request.ensures) c.requires.allowed).in_range in search rules
 
 pub make-requires : goal.make-requires
-make-requires g c = let h = subst (λ v. IsInRange v c.request.result.settings) c.in-Make.is (subst IsAllowed (sym c.request.ensures) c.requires).in_range in search rules
+make-requires g c = let h = subst (λ v. IsInRange v c.request.result.settings) c.in-Make.is (subst IsAllowed (sym c.request.ensures) c.requires.allowed).in_range in search rules
 
 pub trial-requires : goal.trial-requires
-trial-requires g c = let h = subst (λ v. IsInRange v c.request.result.settings) c.in-Trial.is (subst IsAllowed (sym c.request.ensures) c.requires).in_range in search rules
+trial-requires g c = let h = subst (λ v. IsInRange v c.request.result.settings) c.in-Trial.is (subst IsAllowed (sym c.request.ensures) c.requires.allowed).in_range in search rules
 
 pub returns-in-Build : goal.returns-in-Build
 returns-in-Build g c = subst (λ m. Ends (doing_of m) (g.F.Shelf.shown c.args.shelf.now) (g.F.Shelf.shown c.build.new.shelf) (g.O.Out.got c.args.out.now) (g.O.Out.got c.build.new.out) (fault_in c.build.result)) c.request.ensures

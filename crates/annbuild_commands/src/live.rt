@@ -1,0 +1,156 @@
+//! `live`: the index of a file of points, built while callers ask it.
+ghost use Rattle.std.specs.Prelude.{◌≡◌, ◌+◌, ◌*◌, ◌≤◌, IfOk, IfErr, length, vec_capacity};
+ghost use Rattle.ann_defs.specs.Distance.{dim_of};
+ghost use Rattle.ann_defs.specs.declared.limits.TheConstants.{MAX_ANSWERS, MAX_WORDS};
+ghost use Rattle.bin_files.specs.Rows.{ArePoints};
+ghost use Rattle.command_options.specs.Settings.{IsInRange};
+ghost use Rattle.command_options.specs.declared.verb.Verb.TheVariants as verbs;
+ghost use Rattle.annbuild_lines.specs.declared.fault.Fault.TheVariants.{NoMemory as NoMemoryFault};
+ghost use Rattle.command_shapes.specs.Ends.{Ends, fault_in};
+ghost use Rattle.annbuild_commands.specs.IndexOf.{vamana_words};
+ghost use Rattle.annbuild_commands.specs.Living.{living, telling, AreAsked, IsSession};
+
+use crate::batch_lines::print_session;
+use crate::index_told::line_of_built;
+use crate::limits::pool_for;
+use crate::live_inputs::{LiveInputs, read_live};
+use crate::vamana::settings_of;
+use ann_shelf::{Gate, NoMemory, Out, Shelf};
+use annbuild_lines::{Fault, batch_line_bytes};
+use annbuild_words::{Request, Role, Settings};
+use command_shapes::store;
+use live_session::{Asking, Session, build_beside_callers};
+use std::alloc::Global;
+use std::sync::Wait;
+use std::thread::Threads;
+use steal_pool::Rounds;
+use vamana_build::Plan;
+
+/// Builds the index on a pool while callers ask.
+fn session_on<R: Threads + Wait + Sync, P: Rounds, G: Gate + Sync>(
+    rt: &R,
+    alloc: Global,
+    inputs: &LiveInputs,
+    options: &Settings,
+    pool: &mut P,
+    gate: &G,
+) -> Result<Session, NoMemory>
+    requires options { IsInRange verbs.Live options.now }
+    requires dim { dim_of inputs.now.queries.vectors ≡ dim_of inputs.now.points.vectors }
+    requires words { vamana_words (length inputs.now.points.vectors) options.now ≤ MAX_WORDS }
+    requires answers { length inputs.now.queries.vectors * options.now.k ≤ MAX_ANSWERS }
+    requires workers { (1 ≤ P.count pool.old) × (P.count pool.old ≤ 64) }
+    ensures { IfOk result (IsSession inputs.now.points.vectors inputs.now.queries.vectors options.now) }
+{
+    let plan = Plan::make(alloc, &inputs.points, settings_of(options))?;
+    let asking = Asking {
+        queries: &inputs.queries,
+        beam: options.search,
+        k: options.k,
+        callers: options.callers,
+    };
+    build_beside_callers(rt, alloc, &plan, asking, pool, gate)
+}
+
+/// A session, and room for the line of each of its answers.
+#[derive(Drop)]
+struct Heard {
+    session: Session,
+    line: Vec<u8>,
+}
+
+/// Takes room for a line, and builds the index on the pool that settings ask for while callers ask.
+fn make_session<R: Threads + Wait + Sync, G: Gate + Sync>(
+    rt: &R,
+    alloc: Global,
+    inputs: &LiveInputs,
+    options: &Settings,
+    gate: &G,
+) -> Result<Heard, NoMemory>
+    requires options { IsInRange verbs.Live options.now }
+    requires dim { dim_of inputs.now.queries.vectors ≡ dim_of inputs.now.points.vectors }
+    requires words { vamana_words (length inputs.now.points.vectors) options.now ≤ MAX_WORDS }
+    requires answers { length inputs.now.queries.vectors * options.now.k ≤ MAX_ANSWERS }
+    requires asked { ArePoints inputs.now.queries.vectors }
+    ensures session { IfOk result (λ h. IsSession inputs.now.points.vectors inputs.now.queries.vectors options.now h.session) }
+    ensures asked { IfOk result (λ h. AreAsked options.now h.session) }
+    ensures line { IfOk result (λ h. 22 * options.now.k + 27 ≤ vec_capacity h.line) }
+{
+    let line = Vec::with_capacity(alloc, batch_line_bytes(options.k as usize))?;
+    let mut pool = pool_for(options, inputs.points.count());
+    let session = session_on(rt, alloc, inputs, options, &mut pool, gate)?;
+    Ok(Heard { session, line })
+}
+
+/// The same, with the fault of the program.
+fn session_for<R: Threads + Wait + Sync, G: Gate + Sync>(
+    rt: &R,
+    alloc: Global,
+    inputs: &LiveInputs,
+    options: &Settings,
+    gate: &G,
+) -> Result<Heard, Fault>
+    requires options { IsInRange verbs.Live options.now }
+    requires dim { dim_of inputs.now.queries.vectors ≡ dim_of inputs.now.points.vectors }
+    requires words { vamana_words (length inputs.now.points.vectors) options.now ≤ MAX_WORDS }
+    requires answers { length inputs.now.queries.vectors * options.now.k ≤ MAX_ANSWERS }
+    requires asked { ArePoints inputs.now.queries.vectors }
+    ensures session { IfOk result (λ h. IsSession inputs.now.points.vectors inputs.now.queries.vectors options.now h.session) }
+    ensures asked { IfOk result (λ h. AreAsked options.now h.session) }
+    ensures line { IfOk result (λ h. 22 * options.now.k + 27 ≤ vec_capacity h.line) }
+    ensures failed { IfErr result (λ fault. fault ≡ NoMemoryFault) }
+{
+    match make_session(rt, alloc, inputs, options, gate) {
+        Ok(heard) => Ok(heard),
+        Err(NoMemory) => Err(Fault::NoMemory),
+    }
+}
+
+/// Builds the index of points while callers ask, stores it, and tells of it and of their answers.
+fn told_live<R: Threads + Wait + Sync, F: Shelf, O: Out, G: Gate + Sync>(
+    rt: &R,
+    alloc: Global,
+    inputs: &LiveInputs,
+    options: &Settings,
+    name: &str,
+    shelf: &mut F,
+    out: &mut O,
+    gate: &G,
+) -> Result<(), Fault>
+    requires options { IsInRange verbs.Live options.now }
+    requires dim { dim_of inputs.now.queries.vectors ≡ dim_of inputs.now.points.vectors }
+    requires words { vamana_words (length inputs.now.points.vectors) options.now ≤ MAX_WORDS }
+    requires answers { length inputs.now.queries.vectors * options.now.k ≤ MAX_ANSWERS }
+    requires asked { ArePoints inputs.now.queries.vectors }
+    ensures { Ends (telling inputs.now.points.vectors inputs.now.queries.vectors name.now options.now) (F.shown shelf.old) (F.shown shelf.new) (O.got out.old) (O.got out.new) (fault_in result) }
+{
+    let Heard { session, mut line } = session_for(rt, alloc, inputs, options, gate)?;
+    let told = line_of_built(&session.index);
+    store(shelf, Role::Index, name, &session.index)?;
+    print_session(&session, told.as_slice(), &mut line, out)
+}
+
+/// Builds the index of a file of points while callers ask it, stores it, and tells of it and of their answers.
+pub(crate) fn live<R: Threads + Wait + Sync, F: Shelf, O: Out, G: Gate + Sync>(
+    rt: &R,
+    alloc: Global,
+    request: &Request<'_>,
+    shelf: &mut F,
+    out: &mut O,
+    gate: &G,
+) -> Result<(), Fault>
+    requires { IsInRange verbs.Live request.now.settings }
+    ensures { Ends (living request.now.names.first.now request.now.names.second.now request.now.names.third.now request.now.settings) (F.shown shelf.old) (F.shown shelf.new) (O.got out.old) (O.got out.new) (fault_in result) }
+{
+    let inputs = read_live(alloc, request, shelf)?;
+    told_live(
+        rt,
+        alloc,
+        &inputs,
+        &request.settings,
+        request.names.second,
+        shelf,
+        out,
+        gate,
+    )
+}
