@@ -1,0 +1,145 @@
+//! Eight callers beside a build.
+ghost use Rattle.std.specs.Prelude.{◌≡◌, IfOk};
+ghost use Rattle.std.specs.List.{All};
+ghost use Rattle.ann_defs.specs.Distance.{dim_of};
+ghost use Rattle.versions.specs.Course.{course_of};
+ghost use Rattle.versions.specs.Standing.{starting};
+ghost use Rattle.live_tests.specs.InStep.{AreInStep};
+ghost use Rattle.live_tests.specs.Seated.{CanAsk};
+
+use crate::line::plain;
+use crate::seat::{Seat, seats_for};
+use crate::stepping::{opened, publish_all};
+use ann_shelf::NoMemory;
+use bin_files::Points;
+use seeded_order::made_points;
+use std::alloc::Global;
+use std::process::Abort;
+use std::sync::Wait;
+use std::test::Fail;
+use std::thread::{Threads, for_each_mut, join_mut};
+use vamana_build::{Plan, Vamana};
+use versions::{Caller, Publisher};
+
+const CALLERS: u32 = 8;
+
+// How many queries each caller asks.
+const QUERIES: u32 = 1000;
+
+// Asks all queries, with beam 16 for 4 ids.
+fn ask_all(plan: &Plan<'_>, queries: &Points, seat: &mut Seat<'_>)
+    requires dim { dim_of queries.now.vectors ≡ dim_of plan.now.points.now.vectors }
+    requires can { CanAsk (course_of plan.now) 16 4 seat.old }
+    ensures { CanAsk (course_of plan.now) 16 4 seat.new }
+{
+    for j in 0..queries.count() {
+        seat.ask(plan, queries.at(j), 16, 4);
+    }
+}
+
+// All callers ask, each in a thread of its own where there is one.
+fn ask_everyone<R: Threads + Sync>(
+    rt: &R,
+    plan: &Plan<'_>,
+    queries: &Points,
+    seats: &mut [Seat<'_>],
+)
+    requires dim { dim_of queries.now.vectors ≡ dim_of plan.now.points.now.vectors }
+    requires can { All (CanAsk (course_of plan.now) 16 4) seats.old }
+    ensures { All (CanAsk (course_of plan.now) 16 4) seats.new }
+{
+    for_each_mut(
+        rt,
+        seats,
+        CALLERS as usize,
+        &|_, seat| ask_all(plan, queries, seat),
+    );
+}
+
+// All batches are published while the callers ask.
+fn beside<R: Threads + Wait + Sync>(
+    rt: &R,
+    alloc: Global,
+    plan: &Plan<'_>,
+    queries: &Points,
+    build: &mut Vamana<'_>,
+    publisher: &mut Publisher<'_>,
+    seats: &mut [Seat<'_>],
+) -> Result<(), NoMemory>
+    requires dim { dim_of queries.now.vectors ≡ dim_of plan.now.points.now.vectors }
+    requires step { AreInStep (course_of plan.now) build.old publisher.old }
+    requires can { All (CanAsk (course_of plan.now) 16 4) seats.old }
+{
+    let ((), built) = join_mut(
+        rt,
+        &mut ||
+            requires dim { dim_of queries.now.vectors ≡ dim_of plan.now.points.now.vectors }
+            requires can { All (CanAsk (course_of plan.now) 16 4) seats.now }
+        { ask_everyone(rt, plan, queries, seats) },
+        &mut ||
+            requires { AreInStep (course_of plan.now) build.now publisher.now }
+        { publish_all(rt, alloc, plan, build, publisher) },
+    );
+    built
+}
+
+// The callers, after they asked beside the build.
+fn asked<'p, R: Threads + Wait + Sync>(
+    rt: &R,
+    alloc: Global,
+    plan: &Plan<'_>,
+    queries: &Points,
+    build: &mut Vamana<'_>,
+    publisher: &mut Publisher<'p>,
+    callers: Vec<Caller<'p>>,
+) -> Result<Vec<Seat<'p>>, NoMemory>
+    requires dim { dim_of queries.now.vectors ≡ dim_of plan.now.points.now.vectors }
+    requires step { AreInStep (course_of plan.now) build.old publisher.old }
+    requires callers { All (λ x. x ≡ starting (course_of plan.now)) callers.items }
+{
+    let mut seats = seats_for(alloc, plan, callers, 16, 4)?;
+    beside(
+        rt,
+        alloc,
+        plan,
+        queries,
+        build,
+        publisher,
+        seats.as_mut_slice(),
+    )?;
+    Ok(seats)
+}
+
+// Asserts that each caller was answered each query, and that the batches of its answers never fell.
+fn assert_all_answered(rt: &impl Abort, seats: &[Seat<'_>]) {
+    assert_eq!(rt; seats.len(), CALLERS as usize);
+    for seat in seats {
+        assert_eq!(rt; (seat.refused(), seat.answered()), (0, QUERIES));
+        assert!(rt; !seat.fell());
+    }
+}
+
+#[test]
+fn eight_callers_beside_a_build_are_never_refused(rt: HostRuntime) -> Result<(), Fail> {
+    let alloc = rt.alloc();
+    let points = made_points(alloc, 2000, 2, 1, 0)?;
+    let queries = made_points(alloc, QUERIES, 2, 2, 0)?;
+    assert!(rt; points.count() == 2000);
+    assert!(rt; queries.dim() == points.dim());
+    let plan = Plan::make(alloc, &points, plain(8, 16, 20))?;
+    let (mut build, mut publisher, callers) = opened(&rt, alloc, &plan, CALLERS)?;
+    let seats = asked(
+        &rt,
+        alloc,
+        &plan,
+        &queries,
+        &mut build,
+        &mut publisher,
+        callers,
+    );
+    let all = build.batch() == build.total() && publisher.batch() == build.total();
+    publisher.end(&rt);
+    assert!(rt; all);
+    assert_all_answered(&rt, &seats?);
+    Ok(())
+}
