@@ -1,8 +1,7 @@
 //! `build` from bytes to bytes: worked files, settings, pools and workers.
-use crate::calls::{NONE, call, words_in};
-use crate::files::{FOUR, FOUR_BY_FOUR, FOUR_BY_ONE, FOUR_LINE, FOUR_WIDE};
 use ann_shelf::{FreeGate, MemOut, SoundShelf};
 use annbuild_commands::annbuild;
+use top_calls::{FOUR, FOUR_BY_FOUR, FOUR_BY_ONE, FOUR_LINE, FOUR_WIDE, NONE, call, words_in};
 
 #[test]
 fn worked_files_give_their_indexes(rt: HostRuntime) {

@@ -1,7 +1,6 @@
 //! Calls of the outside that fail, one at a time.
-use crate::calls::{Failing, NONE, call};
-use crate::files::{FOUR, FOUR_BY_FOUR, FOUR_WIDE};
 use annbuild_commands::{Fault, Role};
+use top_calls::{FOUR, FOUR_BY_FOUR, FOUR_WIDE, Failing, NONE, call};
 
 const BUILD: &str = "build pts ann --order file --start first";
 

@@ -1,11 +1,10 @@
 //! What a gate sees: batches and tasks.
-use crate::calls::{NONE, Outcome, call_at};
-use crate::files::{FOUR, FOUR_BY_FOUR};
 use ann_shelf::{FreeGate, Gate, NoMemory};
 use std::alloc::Global;
 use std::sync::Wait;
 use std::sync::atomic::{AtomicU64, Ordering};
 use std::thread::Threads;
+use top_calls::{FOUR, FOUR_BY_FOUR, NONE, Outcome, call_at};
 
 /// A gate that counts. The numbers of the batches stand behind one another, a decimal digit each.
 #[derive(Drop)]

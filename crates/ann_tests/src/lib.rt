@@ -7,19 +7,13 @@ mod adapters;
 #[cfg(test)]
 mod build;
 #[cfg(test)]
-mod calls;
-#[cfg(test)]
 mod failing;
-#[cfg(test)]
-mod files;
 #[cfg(test)]
 mod gates;
 #[cfg(test)]
-mod large;
+mod live;
 #[cfg(test)]
-mod layered;
-#[cfg(test)]
-mod listed;
+mod live_gates;
 #[cfg(test)]
 mod made;
 #[cfg(test)]

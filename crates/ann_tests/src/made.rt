@@ -1,6 +1,5 @@
 //! `make`, `trial` and `check`: made points, a large run over each pool, and an index that is checked.
-use crate::calls::{NONE, call};
-use crate::files::{FOUR, FOUR_BY_FOUR};
+use top_calls::{FOUR, FOUR_BY_FOUR, NONE, call};
 
 /// Three points of five bytes: the generator's first fifteen bytes for seed 7.
 const THREE: &[u8] =

@@ -1,8 +1,7 @@
 //! One allocation that fails. In a run of the tests none does; `rt try --test --fail-alloc N` makes the Nth of each test
 //! fail. Where that one is the test's own, for the files in memory or the words, nothing is called.
-use crate::calls::{NONE, Outcome, call};
-use crate::files::{FOUR, FOUR_BY_FOUR, FOUR_BY_ONE, FOUR_LINE};
 use annbuild_commands::Fault;
+use top_calls::{FOUR, FOUR_BY_FOUR, FOUR_BY_ONE, FOUR_LINE, NONE, Outcome, call};
 
 const BUILD: &str =
     "build pts ann --order file --start first --degree 2 --beam 4 --alpha 1/1 --cap 4";

@@ -1,6 +1,5 @@
 //! `query`: worked answers, and files that don't fit together.
-use crate::calls::{NONE, call};
-use crate::files::{FOUR, FOUR_BY_FOUR, FOUR_BY_ONE};
+use top_calls::{FOUR, FOUR_BY_FOUR, FOUR_BY_ONE, NONE, call};
 
 #[test]
 fn worked_queries_give_their_lines(rt: HostRuntime) {

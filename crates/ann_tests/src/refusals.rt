@@ -1,6 +1,5 @@
 //! Words, settings and files that are refused, each with its status and its line on err.
-use crate::calls::{NONE, call};
-use crate::files::{FOUR, FOUR_BY_FOUR};
+use top_calls::{FOUR, FOUR_BY_FOUR, NONE, call};
 
 #[test]
 fn words_that_mean_no_request_are_usage(rt: HostRuntime) {

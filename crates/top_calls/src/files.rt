@@ -1,30 +1,29 @@
 //! The worked files.
 
 /// Four points on a line: 0, 10, 20 and 30.
-pub(crate) const FOUR: &[u8] = b"\x04\0\0\0\x01\0\0\0\x00\x0a\x14\x1e";
+pub const FOUR: &[u8] = b"\x04\0\0\0\x01\0\0\0\x00\x0a\x14\x1e";
 
 /// Their index with degree 2, beam 4 and alpha 1/1, in file order from the first, with batches of at most 4: rows
 /// [1], [0, 2], [1] and [1].
-pub(crate) const FOUR_BY_FOUR: &[u8] =
+pub const FOUR_BY_FOUR: &[u8] =
     b"PANN\x01\0\0\0\x01\0\0\0\x04\0\0\0\x01\0\0\0\x02\0\0\0\0\0\0\0\x01\0\0\0\x01\0\0\0\x01\0\0\0\x02\0\0\0\0\0\0\0\x02\0\0\0\x01\0\0\0\x01\0\0\0\x01\0\0\0\x01\0\0\0";
 
 /// The same with one point in each batch: rows [1], [0, 2], [1, 3] and [2].
-pub(crate) const FOUR_BY_ONE: &[u8] =
+pub const FOUR_BY_ONE: &[u8] =
     b"PANN\x01\0\0\0\x01\0\0\0\x04\0\0\0\x01\0\0\0\x02\0\0\0\0\0\0\0\x01\0\0\0\x01\0\0\0\x01\0\0\0\x02\0\0\0\0\0\0\0\x02\0\0\0\x02\0\0\0\x01\0\0\0\x03\0\0\0\x01\0\0\0\x02\0\0\0";
 
 /// The index of the default settings but for file order from the first: the rows of [`FOUR_BY_ONE`], degree 64.
-pub(crate) const FOUR_WIDE: &[u8] =
+pub const FOUR_WIDE: &[u8] =
     b"PANN\x01\0\0\0\x01\0\0\0\x04\0\0\0\x01\0\0\0\x40\0\0\0\0\0\0\0\x01\0\0\0\x01\0\0\0\x01\0\0\0\x02\0\0\0\0\0\0\0\x02\0\0\0\x02\0\0\0\x01\0\0\0\x03\0\0\0\x01\0\0\0\x02\0\0\0";
 
 /// An HNSW index of them with one layer, degree 1 and beam 4, in file order, with batches of at most 4: the rows of
 /// [`FOUR_BY_FOUR`].
-pub(crate) const FOUR_IN_ONE_LAYER: &[u8] =
+pub const FOUR_IN_ONE_LAYER: &[u8] =
     b"PANN\x01\0\0\0\x02\0\0\0\x04\0\0\0\x01\0\0\0\x01\0\0\0\0\0\0\0\x01\0\0\0\x01\0\0\0\x01\0\0\0\x02\0\0\0\0\0\0\0\x02\0\0\0\x01\0\0\0\x01\0\0\0\x01\0\0\0\x01\0\0\0";
 
 /// An index of lists of them: kind 3, and the rows of [`FOUR_BY_ONE`].
-pub(crate) const FOUR_IN_LISTS: &[u8] =
+pub const FOUR_IN_LISTS: &[u8] =
     b"PANN\x01\0\0\0\x03\0\0\0\x04\0\0\0\x01\0\0\0\x02\0\0\0\0\0\0\0\x01\0\0\0\x01\0\0\0\x01\0\0\0\x02\0\0\0\0\0\0\0\x02\0\0\0\x02\0\0\0\x01\0\0\0\x03\0\0\0\x01\0\0\0\x02\0\0\0";
 
 /// The settings of [`FOUR_BY_FOUR`] and [`FOUR_BY_ONE`] but for the cap.
-pub(crate) const FOUR_LINE: &[u8] =
-    b"built vamana count 4 dim 1 degree 2 start 0 layers 1 edges 5\n";
+pub const FOUR_LINE: &[u8] = b"built vamana count 4 dim 1 degree 2 start 0 layers 1 edges 5\n";

@@ -1,10 +1,9 @@
 //! HNSW: a worked index of one layer, and 2,000 made points in four layers. Two other programs give the large index, byte
 //! for byte alike: one that follows the definitions step by step, and a builder of the same definitions in C++. The first
 //! of them gives the answers.
-use crate::calls::{NONE, call};
-use crate::files::{FOUR, FOUR_IN_ONE_LAYER};
 use crate::large::{built, file_of, sum_of};
 use seeded_order::made_points;
+use top_calls::{FOUR, FOUR_IN_ONE_LAYER, NONE, call};
 
 /// What identifies the index and the answers.
 const INDEX: u64 = 0x091e0059c8a79156;

@@ -7,14 +7,14 @@ use std::thread::Threads;
 
 /// Which calls of the outside fail, by their numbers from 1; 0 for none.
 #[derive(Clone, Copy)]
-pub(crate) struct Failing {
+pub struct Failing {
     pub shelf: u64,
     pub out: u64,
     pub err: u64,
 }
 
 /// None fails.
-pub(crate) const NONE: Failing = Failing {
+pub const NONE: Failing = Failing {
     shelf: 0,
     out: 0,
     err: 0,
@@ -22,7 +22,7 @@ pub(crate) const NONE: Failing = Failing {
 
 /// How a call ended, and what stands then.
 #[derive(Drop)]
-pub(crate) struct Outcome {
+pub struct Outcome {
     pub status: Status,
     pub shelf: MemShelf,
     pub out: MemOut,
@@ -30,7 +30,7 @@ pub(crate) struct Outcome {
 }
 
 /// The words of a text.
-pub(crate) fn words_in(alloc: Global, text: &str) -> Result<Vec<String>, NoMemory> {
+pub fn words_in(alloc: Global, text: &str) -> Result<Vec<String>, NoMemory> {
     let mut words = Vec::new(alloc);
     for word in text.split_whitespace() {
         words.push(String::from_str(alloc, word)?)?;
@@ -39,7 +39,7 @@ pub(crate) fn words_in(alloc: Global, text: &str) -> Result<Vec<String>, NoMemor
 }
 
 /// Does what the words say over these files, with this gate.
-pub(crate) fn call_at<R: Threads + Wait + Sync, G: Gate + Sync>(
+pub fn call_at<R: Threads + Wait + Sync, G: Gate + Sync>(
     rt: &R,
     alloc: Global,
     text: &str,
@@ -67,7 +67,7 @@ pub(crate) fn call_at<R: Threads + Wait + Sync, G: Gate + Sync>(
 }
 
 /// The same with a gate whose calls do nothing.
-pub(crate) fn call<R: Threads + Wait + Sync>(
+pub fn call<R: Threads + Wait + Sync>(
     rt: &R,
     alloc: Global,
     text: &str,

@@ -1,13 +1,13 @@
 //! 2,000 made points and 5,000 made queries: the index takes more than one piece of a file, and the queries more than one
 //! round. Two other programs give the index, byte for byte alike: one that follows the definitions step by step, and a
 //! builder of the same definitions in C++. The first of them gives the answers.
-use crate::calls::{NONE, Outcome, call};
 use ann_shelf::{MemShelf, NoMemory};
 use bin_files::{Points, write_points};
 use seeded_order::made_points;
 use std::alloc::Global;
 use std::sync::Wait;
 use std::thread::Threads;
+use top_calls::{NONE, Outcome, call};
 
 /// What identifies the points' file, the queries' file, the index and the answers.
 const POINTS: u64 = 0xbdae441cc500b8a9;

@@ -1,0 +1,9 @@
+//! End-to-end tests over the top call with 2,000 points, each kind of index over each pool, against numbers from outside.
+#![tactic(auto)]
+
+#[cfg(test)]
+mod large;
+#[cfg(test)]
+mod layered;
+#[cfg(test)]
+mod listed;

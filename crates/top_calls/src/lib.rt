@@ -1,0 +1,11 @@
+//! One call of the program over files in memory, for tests: `call` and `call_at` make it, an `Outcome` is what stands then,
+//! and the worked files are what they are made over.
+#![tactic(auto)]
+
+mod calls;
+mod files;
+
+pub use calls::{Failing, NONE, Outcome, call, call_at, words_in};
+pub use files::{
+    FOUR, FOUR_BY_FOUR, FOUR_BY_ONE, FOUR_IN_LISTS, FOUR_IN_ONE_LAYER, FOUR_LINE, FOUR_WIDE,
+};
