@@ -62,6 +62,13 @@ same_bytes hnsw.ann --kind hnsw
 same_bytes nnd.ann --kind nnd --degree 32
 
 echo
+echo '# Three callers ask while the index is being built: each gets an answer of a whole batch, and of the last one in the end.'
+echo '$ annbuild live points.u8bin beside.ann asked.u8bin --degree 32 --beam 64 --k 5 --callers 3'
+"$run" live points.u8bin beside.ann asked.u8bin --degree 32 --beam 64 --k 5 --callers 3 >told || exit 1
+sed 's/^live \([0-9]*\) .*/live \1 (after some batch)/' told
+cmp vamana.ann beside.ann && echo 'beside.ann is vamana.ann, byte for byte'
+
+echo
 echo '# A damaged file: an id of the first row becomes 4,294,967,295. One that was cut. And a setting out of its range.'
 cp vamana.ann damaged.ann
 printf '\377\377\377\377' | dd of=damaged.ann bs=1 seek=36 conv=notrunc 2>/dev/null

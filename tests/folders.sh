@@ -59,6 +59,25 @@ for i in 1 2 3 4 5; do
 done
 [ $bad = 0 ] && pass "$case_name" || fail "$case_name" "$bad runs"
 
+case_name="live writes the index of a build, and in the end its callers get what a query finds"
+bad=0
+for callers in 1 3 16; do
+    for pool in serial rayon steal; do
+        rm -f live.ann
+        status=$(run "$program" live a live.ann asked --callers $callers --pool $pool)
+        [ "$status" = 0 ] && cmp -s live.ann a.ann && [ "$(head -n 1 out)" = "$(cat a.line)" ] || bad=$((bad + 1))
+        # The last lines are those of the query, each with the number of the last batch behind its own number.
+        sed -n 's/^last \([0-9]*\) [0-9]*/\1/p' out >last
+        cmp -s last a.answers || bad=$((bad + 1))
+        [ "$(grep -c '^live ' out)" = 100 ] || bad=$((bad + 1))
+    done
+done
+[ $bad = 0 ] && pass "$case_name" || fail "$case_name" "$bad runs"
+
+case_name="live, whose callers see an early graph and later ones never goes back"
+"$program" live a live.ann asked --callers 4 >out
+awk '$1 == "live" { caller = $2 % 4; if ($3 < seen[caller]) bad = 1; seen[caller] = $3 } END { exit bad }' out && pass "$case_name" || fail "$case_name" "an older batch"
+
 case_name="two builds into one name leave one of the two"
 bad=0
 mkdir two
