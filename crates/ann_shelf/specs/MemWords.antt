@@ -1,5 +1,5 @@
 -- What clauses say of the shelves and of the output in memory.
-use Rattle.std.specs.Prelude.{◌≡◌, ◌⊎◌, ℕ, List, true, false, Some, None, IsSome}
+use Rattle.std.specs.Prelude.{◌≡◌, ◌⊎◌, ℕ, List, true, false, Option, Some, None, IsSome}
 use Rattle.std.specs.FinMap.{get}
 use Rattle.ann_shelf.specs.declared.mem_shelf.MemShelf.{MemShelf}
 use Rattle.ann_shelf.specs.declared.mem_out.MemOut.{MemOut}
@@ -22,6 +22,10 @@ shelf_begun s = files_of s.begun.items
 -- the calls of the trait
 abbrev pub shelf_calls : MemShelf → Calls
 shelf_calls s = s.calls
+
+-- the most bytes that one of them moves, where that is set
+abbrev pub shelf_piece : MemShelf → Option ℕ
+shelf_piece s = s.piece
 
 -- how many reads failed, of all names together
 abbrev pub shelf_read_faults : MemShelf → ℕ
@@ -47,13 +51,14 @@ pub record FailsAsSet (s : MemShelf) (name : List ℕ) (ok failed : Type 0) : Ty
   pub missing : get (shelf_begun s) name ≡ None → failed
   pub refused : failed → (next_fails (shelf_calls s) ≡ true) ⊎ (get (shelf_begun s) name ≡ None)
 
--- a begin, append or finish counts as one call, and as a failed write exactly where it failed
+-- a begin, append or finish counts as one call, and as a failed write exactly where it failed; how much a call moves stays
 pub record WriteCounts (old new : MemShelf) (ok failed no_memory : Type 0) : Type 0 where
   pub calls : shelf_calls new ≡ one_more (shelf_calls old)
   pub counted : failed → shelf_write_faults new ≡ next_count (shelf_write_faults old)
   pub uncounted : ok → shelf_write_faults new ≡ shelf_write_faults old
   pub no_memory_uncounted : no_memory → shelf_write_faults new ≡ shelf_write_faults old
   pub reads : shelf_read_faults new ≡ shelf_read_faults old
+  pub piece : shelf_piece new ≡ shelf_piece old
 
 -- the files that a shelf that never fails holds
 abbrev pub sound_files : SoundShelf → Files
@@ -79,6 +84,10 @@ out_bytes o = o.bytes.items
 -- the writes
 abbrev pub out_calls : MemOut → Calls
 out_calls o = o.calls
+
+-- the most bytes that one of them takes, where that is set
+abbrev pub out_piece : MemOut → Option ℕ
+out_piece o = o.piece
 
 -- how many writes failed
 abbrev pub out_faults : MemOut → ℕ

@@ -6,19 +6,27 @@ use std::io::{ErrorKind, Read, Seek, SeekFrom, Write};
 use std::path::Path;
 use std::{fs, io};
 
-// Opens a file under a handle that is none of the three standard streams: where the program was started with one of
-// them closed, the system gives its number to the first file that is opened, and what is printed would go there.
+// A second handle of a file, which is none of the three standard streams: where the program was started with one of them
+// closed, the system gives its number to the first file that is opened, and what is printed would go there.
+// A system that has no second handles has no streams that a file could stand for, and gives none.
+pub(crate) fn handle_apart<H: OpenFile>(file: &H) -> io::Result<Option<H>> {
+    match file.try_clone() {
+        Ok(apart) => Ok(Some(apart)),
+        Err(e) if e.kind() == ErrorKind::Unsupported => Ok(None),
+        Err(e) => Err(e),
+    }
+}
+
+// Opens a file under a handle that is none of the standard streams.
 pub(crate) fn open_apart<R: Files>(
     rt: &R,
     how: &OpenOptions,
     path: Path<'_>,
 ) -> io::Result<R::File> {
     let file = how.open(rt, path)?;
-    match file.try_clone() {
-        Ok(apart) => Ok(apart),
-        // A system that has no second handles has no streams that a file could stand for.
-        Err(e) if e.kind() == ErrorKind::Unsupported => Ok(file),
-        Err(e) => Err(e),
+    match handle_apart(&file)? {
+        Some(apart) => Ok(apart),
+        None => Ok(file),
     }
 }
 

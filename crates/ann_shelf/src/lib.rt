@@ -2,7 +2,7 @@
 //! and a gate that is called at moments of a build (`Gate`).
 //!
 //! `DirShelf` and `StdOut` are the real folder and the standard streams. `MemShelf` and `MemOut` stand for them in
-//! tests: of their calls those with chosen numbers fail. `SoundShelf` is a shelf on which no call fails.
+//! tests: of their calls those with chosen numbers fail, and each moves as few bytes as is set. `SoundShelf` is a shelf on which no call fails.
 //! An error is a `Slip`: `Failed` comes only where the object's count of faults rose, `NoMemory` where there was no
 //! memory. `append_all` and `write_all` carry a piece through, however little one call takes.
 #![tactic(auto)]
@@ -18,6 +18,7 @@ mod named_files;
 mod open_files;
 mod out;
 mod part_file;
+mod pieces;
 mod shelf;
 mod slip;
 mod sound_shelf;

@@ -1,17 +1,19 @@
-ghost use Rattle.std.specs.Prelude.{◌≡◌, ◌⊎◌, true, false, ◌||◌, ◌==◌, ◌++◌, [], ◌≤◌, ℕ, None, length, OnOk, OnErr, IfOk, IfErr, IsSome, IsOk, IsErrOf, option_map};
+ghost use Rattle.std.specs.Prelude.{◌≡◌, ◌⊎◌, true, false, ◌||◌, ◌==◌, ◌++◌, [], ◌≤◌, ◌<◌, ℕ, None, length, OnOk, OnErr, IfOk, IfErr, Some, IsSome, IsOk, IsErrOf, option_map, take};
 ghost use Rattle.std.specs.FinMap.{get};
 ghost use Rattle.ann_shelf.specs.Calls.{fails, next_fails, no_calls, one_more};
 ghost use Rattle.ann_shelf.specs.Faults.{next_count};
 ghost use Rattle.ann_shelf.specs.Files.{no_files, bytes_of, with_file, without_file, Reads};
+ghost use Rattle.ann_shelf.specs.Pieces.{moved};
 ghost use Rattle.ann_shelf.specs.Shown.{OnlyReads, OnlyWrites};
 
 use crate::calls::CallLog;
 use crate::faults::counted;
 use crate::named_files::{extend_file, file_at, read_from, set_file, take_file};
+use crate::pieces::Piece;
 use crate::{NoMemory, Shelf, Slip};
 use std::alloc::Global;
 
-/// Files in memory, of whose calls some can be made to fail.
+/// Files in memory, of whose calls some can be made to fail, and each to move few bytes.
 ///
 /// The calls of `Shelf` are numbered from 1, those of all files together.
 /// A read of a missing file fails, as does an append or finish of one that isn't begun.
@@ -22,18 +24,20 @@ pub struct MemShelf {
     files: Vec<(String, Vec<u8>)>,
     begun: Vec<(String, Vec<u8>)>,
     calls: CallLog,
+    piece: Piece,
     read_faults: u64,
     write_faults: u64,
 }
 
 impl MemShelf {
-    ghost use Rattle.ann_shelf.specs.MemWords.{shelf_files, shelf_begun, shelf_calls, shelf_read_faults, shelf_write_faults};
+    ghost use Rattle.ann_shelf.specs.MemWords.{shelf_files, shelf_begun, shelf_calls, shelf_piece, shelf_read_faults, shelf_write_faults};
 
     /// No files, and no call that fails. It keeps the allocator and takes no memory.
     pub fn new(alloc: Global) -> MemShelf
         ensures files { shelf_files result ≡ no_files }
         ensures begun { shelf_begun result ≡ no_files }
         ensures calls { shelf_calls result ≡ no_calls }
+        ensures piece { shelf_piece result ≡ None }
         ensures reads { shelf_read_faults result ≡ 0 }
         ensures writes { shelf_write_faults result ≡ 0 }
     {
@@ -42,6 +46,7 @@ impl MemShelf {
             files: Vec::new(alloc),
             begun: Vec::new(alloc),
             calls: CallLog::new(alloc),
+            piece: Piece::unbound(),
             read_faults: 0,
             write_faults: 0,
         }
@@ -53,6 +58,7 @@ impl MemShelf {
         ensures err { OnErr result (shelf_files self.new ≡ shelf_files self.old) }
         ensures begun { shelf_begun self.new ≡ shelf_begun self.old }
         ensures calls { shelf_calls self.new ≡ shelf_calls self.old }
+        ensures piece { shelf_piece self.new ≡ shelf_piece self.old }
         ensures reads { shelf_read_faults self.new ≡ shelf_read_faults self.old }
         ensures writes { shelf_write_faults self.new ≡ shelf_write_faults self.old }
     {
@@ -75,10 +81,25 @@ impl MemShelf {
         ensures files { shelf_files self.new ≡ shelf_files self.old }
         ensures begun { shelf_begun self.new ≡ shelf_begun self.old }
         ensures made { (shelf_calls self.new).made ≡ (shelf_calls self.old).made }
+        ensures piece { shelf_piece self.new ≡ shelf_piece self.old }
         ensures reads { shelf_read_faults self.new ≡ shelf_read_faults self.old }
         ensures writes { shelf_write_faults self.new ≡ shelf_write_faults self.old }
     {
         self.calls.fail(number)
+    }
+
+    /// Has each call from now on move at most this many bytes: a read gives no more, and an append takes no more. It takes no
+    /// memory.
+    pub fn set_piece(&mut self, most: usize)
+        requires { 1 ≤ most }
+        ensures piece { shelf_piece self.new ≡ Some most }
+        ensures files { shelf_files self.new ≡ shelf_files self.old }
+        ensures begun { shelf_begun self.new ≡ shelf_begun self.old }
+        ensures calls { shelf_calls self.new ≡ shelf_calls self.old }
+        ensures reads { shelf_read_faults self.new ≡ shelf_read_faults self.old }
+        ensures writes { shelf_write_faults self.new ≡ shelf_write_faults self.old }
+    {
+        self.piece = Piece::of(most);
     }
 
     /// How many calls of the trait there were. It stays at the last value of `u64`.
@@ -92,7 +113,7 @@ impl MemShelf {
 impl Shelf for MemShelf {
     ghost use Rattle.std.specs.Prelude.{refl};
     ghost use Rattle.ann_shelf.specs.declared.slip.Slip.TheVariants.{Failed};
-    ghost use Rattle.ann_shelf.specs.MemWords.{shelf_files, shelf_begun, shelf_calls, shelf_read_faults, shelf_write_faults, shelf_shown, FailsAsSet, WriteCounts};
+    ghost use Rattle.ann_shelf.specs.MemWords.{shelf_files, shelf_begun, shelf_calls, shelf_piece, shelf_read_faults, shelf_write_faults, shelf_shown, FailsAsSet, WriteCounts};
 
     ghost shown = { shelf_shown };
 
@@ -101,10 +122,12 @@ impl Shelf for MemShelf {
     /// Fails where its number is set and where the file is missing, and nowhere else.
     fn read_at(&mut self, name: &str, at: u64, into: &mut [u8]) -> Result<usize, Slip>
         ensures bound { IfOk result (λ k. k ≤ length into.new) }
+        ensures most { IfOk result (λ k. k ≤ moved (shelf_piece self.old) (length into.old)) }
         ensures bytes { IfOk result (λ k. Reads (bytes_of (shelf_files self.old) name.now) at k into.new) }
         ensures answered { OnOk result ((next_fails (shelf_calls self.old) ≡ false) × IsSome (get (shelf_files self.old) name.now)) }
         ensures refused { IfErr result (λ slip. (slip ≡ Slip.Failed) × ((next_fails (shelf_calls self.old) ≡ true) ⊎ (get (shelf_files self.old) name.now ≡ None))) }
         ensures calls { shelf_calls self.new ≡ one_more (shelf_calls self.old) }
+        ensures piece { shelf_piece self.new ≡ shelf_piece self.old }
         ensures counted { OnErr result (shelf_read_faults self.new ≡ next_count (shelf_read_faults self.old)) }
         ensures uncounted { OnOk result (shelf_read_faults self.new ≡ shelf_read_faults self.old) }
         ensures writes { shelf_write_faults self.new ≡ shelf_write_faults self.old }
@@ -113,8 +136,9 @@ impl Shelf for MemShelf {
         if self.calls.is_to_fail() {
             return Err(counted(Slip::Failed, &mut self.read_faults));
         }
+        let most = self.piece.moved(into.len());
         match file_at(&self.files, name) {
-            Some(bytes) => Ok(read_from(bytes, at, into)),
+            Some(bytes) => Ok(read_from(bytes, at, most, into)),
             None => Err(counted(Slip::Failed, &mut self.read_faults)),
         }
     }
@@ -137,11 +161,13 @@ impl Shelf for MemShelf {
         Ok(())
     }
 
-    /// Takes the whole piece. Fails where its number is set and where the file isn't begun, and nowhere else.
+    /// Takes the whole piece, or as much of it as one call moves. Fails where its number is set and where the file isn't begun, and nowhere else.
     /// After a refusal nothing that is begun changed.
     fn append(&mut self, name: &str, bytes: &[u8]) -> Result<usize, Slip>
-        ensures whole { IfOk result (λ k. k ≡ length bytes.now) }
-        ensures ok { OnOk result (shelf_begun self.new ≡ with_file (shelf_begun self.old) name.now (bytes_of (shelf_begun self.old) name.now ++ bytes.now)) }
+        ensures whole { IfOk result (λ k. k ≡ moved (shelf_piece self.old) (length bytes.now)) }
+        ensures bound { IfOk result (λ k. k ≤ length bytes.now) }
+        ensures some { IfOk result (λ k. 0 < length bytes.now → 0 < k) }
+        ensures ok { OnOk result (shelf_begun self.new ≡ with_file (shelf_begun self.old) name.now (bytes_of (shelf_begun self.old) name.now ++ take (moved (shelf_piece self.old) (length bytes.now)) bytes.now)) }
         ensures err { OnErr result (shelf_begun self.new ≡ shelf_begun self.old) }
         ensures held { shelf_files self.new ≡ shelf_files self.old }
         ensures failures { FailsAsSet self.old name.now (IsOk result) (IsErrOf result Slip.Failed) }
@@ -151,8 +177,9 @@ impl Shelf for MemShelf {
         if self.calls.is_to_fail() {
             return Err(counted(Slip::Failed, &mut self.write_faults));
         }
-        if extend_file(&mut self.begun, name, bytes)? {
-            return Ok(bytes.len());
+        let taken = self.piece.moved(bytes.len());
+        if extend_file(&mut self.begun, name, &bytes[..taken])? {
+            return Ok(taken);
         }
         Err(counted(Slip::Failed, &mut self.write_faults))
     }

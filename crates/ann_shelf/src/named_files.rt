@@ -86,16 +86,18 @@ pub(crate) fn file_at<'a>(files: &'a [(String, Vec<u8>)], name: &str) -> Option<
     }
 }
 
-// The bytes from a place on, as many as there is room for.
-pub(crate) fn read_from(bytes: &[u8], at: u64, into: &mut [u8]) -> usize
+// The bytes from a place on, as many as there is room for, and at most this many.
+pub(crate) fn read_from(bytes: &[u8], at: u64, most: usize, into: &mut [u8]) -> usize
+    requires some { 0 < length into.old → 0 < most }
     ensures bound { result ≤ length into.new }
+    ensures most { result ≤ most }
     ensures reads { Reads bytes.now at result into.new }
 {
     if at >= bytes.len() as u64 {
         return 0;
     }
     let rest = &bytes[at as usize..];
-    let k = rest.len().min(into.len());
+    let k = rest.len().min(into.len()).min(most);
     into[..k].copy_from_slice(&rest[..k]);
     k
 }

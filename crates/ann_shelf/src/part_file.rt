@@ -1,5 +1,5 @@
 //! A new file beside the one that it is to replace.
-use crate::handles::open_apart;
+use crate::handles::handle_apart;
 use std::alloc::Global;
 use std::fmt::Write;
 use std::fs::{Files, OpenFile, OpenOptions, Permissions};
@@ -41,13 +41,21 @@ impl<'r, R: Files> PartFile<'r, R> {
             write!(name, "annbuild-part-{number}")?;
             let mut path = PathBuf::from_str(alloc, target.as_str())?;
             path.set_file_name(name.as_str())?;
-            match open_apart(rt, &how, path.as_path()) {
-                Ok(file) => return Ok(PartFile { rt, path, file }),
+            match how.open(rt, path.as_path()) {
+                Ok(file) => return PartFile { rt, path, file }.apart(),
                 Err(e) if e.kind() == ErrorKind::AlreadyExists => {}
                 Err(e) => return Err(e),
             }
         }
         Err(io::Error::from(ErrorKind::AlreadyExists))
+    }
+
+    // The file under a handle that is none of the standard streams. Where there is none to be had, it is removed.
+    fn apart(mut self) -> io::Result<PartFile<'r, R>> {
+        if let Some(apart) = handle_apart(&self.file)? {
+            self.file = apart;
+        }
+        Ok(self)
     }
 
     // Gives the file these permissions.

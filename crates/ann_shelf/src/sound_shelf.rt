@@ -67,8 +67,9 @@ impl Shelf for SoundShelf {
         ensures same { sound_files self.new ≡ sound_files self.old }
         ensures begun { sound_begun self.new ≡ sound_begun self.old }
     {
+        let most = into.len();
         match file_at(&self.files, name) {
-            Some(bytes) => Ok(read_from(bytes, at, into)),
+            Some(bytes) => Ok(read_from(bytes, at, most, into)),
             None => Ok(0),
         }
     }
