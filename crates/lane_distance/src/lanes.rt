@@ -31,6 +31,16 @@ pub fn by_lanes<const N: usize>(a: &[u8], b: &[u8], from: usize) -> (u32, usize)
     (sums.strict_reduce_sum(), at)
 }
 
+/// The sum over the N bytes from `at` on. N is a power of two, at most 64.
+pub fn by_chunk<const N: usize>(a: &[u8], b: &[u8], at: usize) -> u32
+    requires alike { length a.now ≡ length b.now }
+    requires short { length a.now ≤ MAX_DIM }
+    requires inside { at + N ≤ length a.now }
+    ensures { result + dist_of (drop (at + N) a.now) (drop (at + N) b.now) ≡ dist_of (drop at a.now) (drop at b.now) }
+{
+    squares::<N>(a, b, at).strict_reduce_sum()
+}
+
 // The squared differences of the N bytes from `at` on. A difference of two bytes fits 16 bits with its sign.
 fn squares<const N: usize>(a: &[u8], b: &[u8], at: usize) -> Simd<u32, N>
     requires a { at + N ≤ length a.now }

@@ -15,7 +15,17 @@ pub fn dist(a: &[u8], b: &[u8]) -> u32
     ensures value { result ≡ dist_of a.now b.now }
     ensures bound { result ≤ 65025 * length a.now }
 {
-    let (in_32, at) = by_lanes::<32>(a, b, 0);
+    dist_from(a, b, 0)
+}
+
+/// The sum over the bytes from `from` on.
+pub fn dist_from(a: &[u8], b: &[u8], from: usize) -> u32
+    requires alike { length a.now ≡ length b.now }
+    requires short { length a.now ≤ MAX_DIM }
+    requires from { from ≤ length a.now }
+    ensures { result ≡ dist_of (drop from a.now) (drop from b.now) }
+{
+    let (in_32, at) = by_lanes::<32>(a, b, from);
     let (in_16, rest) = by_lanes::<16>(a, b, at);
     in_32 + in_16 + by_bytes(a, b, rest)
 }

@@ -40,7 +40,7 @@ turned_back : (a b : Near) → near_cmp a b ≡ Greater → near_cmp b a ≡ Les
 turned_back a b e = near_order.total.antisymm b a ∙ ap ordering_reverse e
 
 -- of two places in a list in order
-rises_at : (ys : List Near) (i j : ℕ) (d : Near) → Rises near_cmp ys → i < j → j < length ys → near_cmp (get_or ys i d) (get_or ys j d) ≡ Less
+pub rises_at : (ys : List Near) (i j : ℕ) (d : Near) → Rises near_cmp ys → i < j → j < length ys → near_cmp (get_or ys i d) (get_or ys j d) ≡ Less
 rises_at [] i j d h lt k = absurd (omega arith)
 rises_at (y ∷ ys) i zero d h lt k = absurd (omega arith)
 rises_at (y ∷ ys) zero (suc j) d h lt k = below_has near_cmp near_order y (get_or ys j d) ys h.0 (has_get_or ys j d (omega arith))
@@ -105,7 +105,7 @@ put_behind ys x limit e h last =
     by_place k d lt (inl less) = near_order.total.trans (get_or ys k d) (get_or ys (length ys - 1) d) x (rises_at ys k (length ys - 1) d h less (omega arith)) (last d (omega arith))
     by_place k d lt (inr more) = let here : length ys - 1 ≡ k = omega arith in subst (λ m. near_cmp (get_or ys m d) x ≡ Less) here (last d (omega arith))
 
-less_if : (o : Ordering) → is_lt o ≡ true → o ≡ Less
+pub less_if : (o : Ordering) → is_lt o ≡ true → o ≡ Less
 less_if Less e = refl
 less_if Equal e = cc
 less_if Greater e = cc

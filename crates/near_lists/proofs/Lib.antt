@@ -1,4 +1,5 @@
 pub mod Gathering
+pub mod Halving
 pub mod Inserting
 pub mod Marking
 pub mod Putting

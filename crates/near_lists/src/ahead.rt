@@ -12,8 +12,9 @@ const LINE: usize = 64;
 
 /// Reads a byte of each line of the points with the first `count` ids, where all points are more than a cache holds.
 ///
-/// These reads don't wait for each other, as a distance waits for its point. What they add up to is written behind the
-/// ids, if there is room, so that they are not left out; the ids stay.
+/// Points may begin within a line, so the last byte of each is read too: it may lie in a line more. These reads don't wait
+/// for each other, as a distance waits for its point. What they add up to is written behind the ids, if there is room, so
+/// that they are not left out; the ids stay.
 pub fn touch(points: &Points, ids: &mut [u32], count: usize)
     requires count { count ≤ length ids.old }
     requires ids { All (λ u. u < length points.now.vectors) (take count ids.old) }
@@ -30,6 +31,9 @@ pub fn touch(points: &Points, ids: &mut [u32], count: usize)
         while at < point.len() {
             sum ^= point[at];
             at += LINE;
+        }
+        if let Some(last) = point.last() {
+            sum ^= *last;
         }
     }
     ids[count] = u32::from(sum);
