@@ -1,9 +1,9 @@
 -- The candidates of a merge.
-use Rattle.std.proofs.Common.{◌≡◌, ◌≢◌, ℕ, ◌+◌, ◌-◌, ◌<◌, ◌≤◌, true, cond, not, List, [], ◌∷◌, ◌++◌, length, drop, refl, sym, ap, subst, ◌∙◌, arith}
+use Rattle.std.proofs.Common.{◌≡◌, ◌≢◌, ℕ, ◌+◌, ◌-◌, ◌<◌, ◌≤◌, true, cond, not, List, [], ◌∷◌, ◌++◌, length, take, drop, refl, sym, ap, subst, ◌∙◌, arith}
 use Rattle.std.specs.Prelude.{◌==◌}
 use Rattle.std.specs.List.{filter, All}
 use Rattle.std.proofs.lemmas.Bool.{ne_eqb, le-leb, lt-leb}
-use Rattle.std.proofs.lemmas.List.{drop-drop, length-map, map-append, get_or-map}
+use Rattle.std.proofs.lemmas.List.{drop-drop, length-map, map-append, get_or-map, take-map, take-append-le}
 use Rattle.std.proofs.lemmas.List.Elements.{All-append, All-filter, All-map, All-head, All-tail}
 use Rattle.ann_defs.specs.declared.near.Near.{Near}
 use Rattle.ann_defs.specs.Distance.{point}
@@ -76,6 +76,13 @@ module _ (points points' : List (List ℕ)) (t : ℕ) (row sources : List ℕ) (
 
   ids_laid : ids_of all ≡ added_to row sources
   ids_laid = ap ids_of all_laid ∙ ids-near points (point points t) (added_to row sources)
+
+  -- the first ids of the row are laid out first
+  pub laid_front : (settled : ℕ) → settled ≤ length row → ids_of (take settled all) ≡ take settled row
+  laid_front settled few =
+      sym (take-map (λ (x : Near). x.id) settled all)
+      ∙ ap (take settled) ids_laid
+      ∙ take-append-le settled row (filter (λ s. not (has row s)) sources) few
 
   pub laid_room : (prune : ℕ → List ℕ → List ℕ) → length all ≤ bound → ids_of all ≡ merge_with prune bound t row sources
   laid_room prune few = let many = same_length points t row sources all all_laid in ids_laid ∙ merge_room points t row sources prune bound (omega (arith, many, few))

@@ -1,5 +1,5 @@
 //! A row joined with its sources.
-ghost use Rattle.std.specs.Prelude.{◌≡◌, ◌+◌, ◌<◌, ◌≤◌, ◌++◌, not, length, take, drop};
+ghost use Rattle.std.specs.Prelude.{◌≡◌, ◌+◌, ◌<◌, ◌≤◌, ◌++◌, not, true, length, take, drop};
 ghost use Rattle.std.specs.List.{All, filter};
 ghost use Rattle.ann_defs.specs.Distance.{point};
 ghost use Rattle.ann_defs.specs.Nearness.{all_near, ids_of};
@@ -20,17 +20,23 @@ use robust_prune::Pruning;
 /// 8). `room` holds the candidates with their squared distances meanwhile; what it holds afterwards is not said. It
 /// takes no memory and can't fail, and where row and sources are short enough, it takes no distance.
 ///
+/// The first `settled` ids of the row are those that an earlier prune for the target left together, or none: a prune
+/// doesn't test these against each other again.
+///
 /// Returns the length of the row, which stands at the front of `out`. Behind the row `out` stays as it was.
 pub fn merged_row<P: Pruning>(
     pruning: &P,
     target: u32,
     row: &[u32],
+    settled: usize,
     sources: &[Pair],
     room: &mut [Near],
     out: &mut [u32],
 ) -> usize
     requires target { target < length (P.vectors pruning.now) }
     requires row { IsGoodRow (length (P.vectors pruning.now)) (P.most pruning.now) target row.now }
+    requires settled { settled ≤ length row.now }
+    requires apart { P.apart pruning.now target (take settled row.now) ≡ true }
     requires sources { AreSources (length (P.vectors pruning.now)) target (sources_in sources.now) }
     requires room { length row.now + length sources.now ≤ length room.old }
     requires out { P.most pruning.now ≤ length out.old }
@@ -49,7 +55,7 @@ pub fn merged_row<P: Pruning>(
         copy_ids(&room[..len], out);
         len
     } else {
-        pruning.prune(target, &mut room[..len], out)
+        pruning.prune_among(target, &mut room[..len], settled, out)
     }
 }
 
@@ -135,6 +141,7 @@ fn lay_sources(
     requires room { from + length sources.now ≤ length room.old }
     ensures list { take result room.new ≡
         take from room.old ++ all_near points.now.vectors (point points.now.vectors target) (filter (λ s. not (has row.now s)) (sources_in sources.now)) }
+    ensures least { from ≤ result }
     ensures bound { result ≤ from + length sources.now }
 {
     let mut len = from;

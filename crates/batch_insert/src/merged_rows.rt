@@ -1,8 +1,10 @@
 //! The merged rows of a batch, as tasks.
-ghost use Rattle.std.specs.Prelude.{◌≡◌, ◌+◌, ◌≤◌, true};
+ghost use Rattle.std.specs.Prelude.{◌≡◌, ◌+◌, ◌≤◌, ℕ, true};
 ghost use Rattle.ann_defs.specs.declared.limits.TheConstants.{MAX_WORDS};
 ghost use Rattle.std.proofs.Props.{props};
+ghost use Rattle.ann_defs.specs.Ordered.{Has};
 ghost use Rattle.batch_insert.specs.Batch.{AreTargets};
+ghost use Rattle.batch_insert.specs.Proposing.{targets_of};
 ghost use Rattle.batch_insert.specs.Wanted.{merged_blocks};
 
 use crate::block::seal;
@@ -22,6 +24,7 @@ pub(crate) struct MergedRows<'a, V: Rows + Sync, M: Merging> {
     pub merging: &'a M,
     ghost grouped: { proposals.now.grouped ≡ true },
     ghost targets: { AreTargets (M.count merging.now) (M.most merging.now) (V.held rows.now) (V.row_of rows.now) proposals.now.pairs } by { Prim.hlevel props },
+    ghost known: { (t : ℕ) → Has (targets_of proposals.now.pairs) t → M.knows merging.now t (V.row_of rows.now t) ≡ true } by { Prim.hlevel props },
     ghost narrow: { M.most merging.now + 1 ≤ MAX_WORDS },
 }
 

@@ -1,5 +1,5 @@
 //! How the rows of targets are merged.
-ghost use Rattle.std.specs.Prelude.{◌≡◌, ℕ, ◌<◌, ◌≤◌, List, length, take};
+ghost use Rattle.std.specs.Prelude.{◌≡◌, ℕ, ◌<◌, ◌≤◌, Bool, true, List, length, take};
 ghost use Rattle.ann_defs.specs.Graph.{IsGoodRow};
 ghost use Rattle.batch_insert.specs.Sources.{sources_in, AreSources};
 
@@ -21,6 +21,9 @@ pub trait Merging: Sync {
     // the row of a target, of its row so far and its sources
     ghost merged: { Self → ℕ → List ℕ → List ℕ → List ℕ };
 
+    // whether what the merge knows of a target's row holds, as that some of its ids stay together in a prune
+    ghost knows: { Self → ℕ → List ℕ → Bool };
+
     // which scratches serve
     ghost serves: { Self → Self.Scratch → Type 0 };
 
@@ -40,6 +43,7 @@ pub trait Merging: Sync {
         requires target { target < count self.now }
         requires row { IsGoodRow (count self.now) (most self.now) target row.now }
         requires sources { AreSources (count self.now) target (sources_in sources.now) }
+        requires known { knows self.now target row.now ≡ true }
         requires scratch { serves self.now scratch.old }
         requires out { most self.now ≤ length out.old }
         ensures row { take result out.new ≡ merged self.now target row.now (sources_in sources.now) }

@@ -1,8 +1,8 @@
 //! One batch: what it changes.
-ghost use Rattle.std.specs.Prelude.{◌≡◌, ◌+◌, ◌*◌, ◌≤◌, ◌<◌, IfOk, length};
+ghost use Rattle.std.specs.Prelude.{◌≡◌, ◌+◌, ◌*◌, ◌≤◌, ◌<◌, ℕ, true, IfOk, length};
 ghost use Rattle.std.specs.List.{range_with_len};
 ghost use Rattle.ann_defs.specs.BatchInsert.{row_then};
-ghost use Rattle.batch_insert.specs.Batch.{IsBatch};
+ghost use Rattle.batch_insert.specs.Batch.{IsBatch, laid_over};
 ghost use Rattle.batch_insert.specs.Changes.{differing};
 ghost use Rattle.batch_insert.specs.Wanted.{merged_blocks};
 ghost use Rattle.batch_insert.specs.Proposing.{targets_of};
@@ -48,7 +48,8 @@ fn merge_all<R: Threads + Sync, P: Rounds, G: Gate + Sync, V: Rows + Sync, M: Me
 /// in one round with a task for each target. Returns what differs from the rows before.
 ///
 /// `old` are the rows before the batch, of some of the points: a flat graph, or a layer of HNSW. `fresh` holds the
-/// batch alone, which is `ids`, ascending. Neither changes. `gate.task` is called as by the pool's round. Fails only
+/// batch alone, which is `ids`, ascending. Neither changes. What the merge knows of rows holds of each held id's: of its
+/// new row where it is in the batch, else of its row before. `gate.task` is called as by the pool's round. Fails only
 /// with `NoMemory`, which leaves nothing, and the posts still serve.
 pub fn changed_rows<
     R: Threads + Sync,
@@ -69,6 +70,7 @@ pub fn changed_rows<
     gate: &G,
 ) -> Result<ChangedRows, NoMemory>
     requires batch { IsBatch (M.count merging.now) (M.most merging.now) (O.held old.now) (O.row_of old.now) (F.held fresh.now) (F.row_of fresh.now) ids.now }
+    requires known { (u : ℕ) → O.held old.now u ≡ true → M.knows merging.now u (laid_over (O.row_of old.now) (F.held fresh.now) (F.row_of fresh.now) u) ≡ true }
     requires some { 1 ≤ M.count merging.now }
     requires count { M.count merging.now ≤ MAX_POINTS }
     requires words { M.count merging.now * (M.most merging.now + 1) ≤ MAX_WORDS }

@@ -1,5 +1,5 @@
 //! The merges of a layer.
-ghost use Rattle.std.specs.Prelude.{◌≤◌, length};
+ghost use Rattle.std.specs.Prelude.{◌≤◌, true, length};
 ghost use Rattle.ann_defs.specs.declared.limits.TheConstants.{MAX_DEGREE};
 ghost use Rattle.ann_defs.specs.BatchInsert.{merge_of};
 ghost use Rattle.beam_search.specs.Serving.{Serves};
@@ -31,6 +31,8 @@ impl<'a> Merging for Merges<'a> {
 
     ghost merged = { λ m t row sources. merge_of m.plan.now.points.now.vectors 1 1 m.bound t row sources };
 
+    ghost knows = { λ m t row. true };
+
     ghost serves = { λ m s. Serves (length m.plan.now.points.now.vectors) m.plan.now.settings.beam s };
 
     fn degree(&self) -> u32 {
@@ -50,7 +52,7 @@ impl<'a> Merging for Merges<'a> {
             alpha: Alpha { num: 1, den: 1 },
             degree: self.bound,
         };
-        merged_row(&pruning, target, row, sources, room(scratch), out)
+        merged_row(&pruning, target, row, 0, sources, room(scratch), out)
     }
 
     ghost good = { λ m t row sources at good are. merged_good (length m.plan.now.points.now.vectors) m.bound t m.bound (λ u set. pruned_row m.plan.now.points.now.vectors u set 1 1 m.bound) row sources

@@ -8,7 +8,7 @@ use Rattle.ann_defs.specs.declared.near.Near.{Near}
 use Rattle.ann_defs.specs.Nearness.{ids_of}
 use Rattle.ann_defs.specs.RobustPrune.{kept}
 
-filter-all : (xs : List Near) → filter (λ _. true) xs ≡ xs
+pub filter-all : (xs : List Near) → filter (λ _. true) xs ≡ xs
 filter-all [] = refl
 filter-all (x ∷ xs) = ap (λ ys. x ∷ ys) (filter-all xs)
 
@@ -37,7 +37,7 @@ module _ (beside : ℕ → Near → Bool) where
     pub so_far : take len out ++ to_come (r - len) (take len out) (drop i cands) ≡ ids_of (kept beside r cands)
     pub bound : len ≤ r
 
-  kept-nil : (r : ℕ) → ids_of (kept beside r []) ≡ []
+  pub kept-nil : (r : ℕ) → ids_of (kept beside r []) ≡ []
   kept-nil zero = refl
   kept-nil (suc r) = refl
 
@@ -48,10 +48,10 @@ module _ (beside : ℕ → Near → Bool) where
     bound = omega arith;
   }
 
-  step_no : (r : ℕ) (row : List ℕ) (x : Near) (ys : List Near) → passes row x ≡ false → to_come r row (x ∷ ys) ≡ to_come r row ys
+  pub step_no : (r : ℕ) (row : List ℕ) (x : Near) (ys : List Near) → passes row x ≡ false → to_come r row (x ∷ ys) ≡ to_come r row ys
   step_no r row x ys h = ap (λ b. ids_of (kept beside r (cond b (x ∷ filter (passes row) ys) (filter (passes row) ys)))) h
 
-  step_yes : (r : ℕ) (row : List ℕ) (x : Near) (ys : List Near) → passes row x ≡ true → to_come (suc r) row (x ∷ ys) ≡ x.id ∷ to_come r (row ++ x.id ∷ []) ys
+  pub step_yes : (r : ℕ) (row : List ℕ) (x : Near) (ys : List Near) → passes row x ≡ true → to_come (suc r) row (x ∷ ys) ≡ x.id ∷ to_come r (row ++ x.id ∷ []) ys
   step_yes r row x ys h =
       ap (λ b. ids_of (kept beside (suc r) (cond b (x ∷ filter (passes row) ys) (filter (passes row) ys)))) h
       ∙ ap (λ zs. x.id ∷ ids_of (kept beside r zs)) (filter-filter (passes row) (beside x.id) ys ∙ filter_agree _ _ (λ y. sym (list_all-push (λ c. beside c y) row x.id)) ys)
@@ -80,7 +80,7 @@ module _ (beside : ℕ → Near → Bool) where
     bound = omega arith;
   }
 
-  append-nil : (xs : List ℕ) → xs ++ [] ≡ xs
+  pub append-nil : (xs : List ℕ) → xs ++ [] ≡ xs
   append-nil [] = refl
   append-nil (x ∷ xs) = ap (λ ys. x ∷ ys) (append-nil xs)
 

@@ -18,7 +18,7 @@ use Rattle.ann_defs.proofs.GoodRows.{kept_has, prune_good}
 use Rattle.robust_prune.specs.Candidates.{AreCandidates}
 use Rattle.robust_prune.specs.Pruned.{leaves, IsPruned}
 
-get_has : (xs : List Near) (j : ℕ) (d : Near) → j < length xs → Has xs (get_or xs j d)
+pub get_has : (xs : List Near) (j : ℕ) (d : Near) → j < length xs → Has xs (get_or xs j d)
 get_has [] j d h = absurd (omega arith)
 get_has (x ∷ xs) zero d h = inl refl
 get_has (x ∷ xs) (suc j) d h = inr (get_has xs j d (omega arith))

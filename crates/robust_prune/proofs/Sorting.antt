@@ -32,7 +32,7 @@ Less-from Less h n = refl
 Less-from Equal h n = absurd (n refl)
 Less-from Greater h n = absurd (true≢false h)
 
-rises : (xs : List Near) → IsDistinct nat_eq (ids_of xs) → IsSorted near_cmp xs → Rises near_cmp xs
+pub rises : (xs : List Near) → IsDistinct nat_eq (ids_of xs) → IsSorted near_cmp xs → Rises near_cmp xs
 rises xs distinct sorted =
     let none : Near = record { dist = 0; id = 0 } in
     Rises-from_sorted xs (sorted_from_all_adjacent near_order.total xs none (λ k h.
@@ -50,7 +50,7 @@ rises xs distinct sorted =
     true≢false (sym (eq-eqb _ _ (first ∙ same ∙ sym second)) ∙ apart))))
 
 -- the ids of right distances give the candidates again
-near_again : (points : List (List ℕ)) (p : ℕ) (xs : List Near) → AllByRecursion (λ x. x ≡ near_of points (point points p) x.id) xs → all_near points (point points p) (ids_of xs) ≡ xs
+pub near_again : (points : List (List ℕ)) (p : ℕ) (xs : List Near) → AllByRecursion (λ x. x ≡ near_of points (point points p) x.id) xs → all_near points (point points p) (ids_of xs) ≡ xs
 near_again points p [] h = refl
 near_again points p (x ∷ xs) h = λ i. sym h.0 i ∷ near_again points p xs h.1 i
 

@@ -1,3 +1,4 @@
 pub mod Candidates
 pub mod Pruned
 pub mod Nearest
+pub mod Apart

@@ -6,10 +6,12 @@
 //! the set of candidates alone.
 #![tactic(auto)]
 
+mod among;
 mod nearest;
 mod pruning;
 mod robust;
 
+pub use among::prune_among;
 pub use ann_defs::Alpha;
 pub use nearest::NearestPrune;
 pub use pruning::Pruning;

@@ -15,7 +15,7 @@ pub struct NearestPrune<'p> {
 }
 
 impl<'p> Pruning for NearestPrune<'p> {
-    ghost use Rattle.std.specs.Prelude.{length, ◌<◌, ◌≢◌};
+    ghost use Rattle.std.specs.Prelude.{length, ◌<◌, ◌≢◌, true};
     ghost use Rattle.ann_defs.specs.Distance.{point};
     ghost use Rattle.ann_defs.proofs.Alike.{least_alike};
     ghost use Rattle.robust_prune.specs.Nearest.{nearest_row, nearest_good, nearest_alike};
@@ -25,6 +25,8 @@ impl<'p> Pruning for NearestPrune<'p> {
     ghost most = { λ s. s.degree };
 
     ghost pruned = { λ s p set. nearest_row s.points.now.vectors p set s.degree };
+
+    ghost apart = { λ s p ids. true };
 
     fn points(&self) -> &Points {
         self.points
@@ -37,6 +39,10 @@ impl<'p> Pruning for NearestPrune<'p> {
     fn prune(&self, _p: u32, cands: &mut [Near], out: &mut [u32]) -> usize {
         cands.sort_unstable();
         copy_first(cands, self.degree, out)
+    }
+
+    fn prune_among(&self, p: u32, cands: &mut [Near], _settled: usize, out: &mut [u32]) -> usize {
+        self.prune(p, cands, out)
     }
 
     ghost good = { λ s p set inside others. nearest_good s.points.now.vectors p set s.degree inside others };

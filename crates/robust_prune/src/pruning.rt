@@ -1,5 +1,5 @@
 //! What prunes the candidates of a point.
-ghost use Rattle.std.specs.Prelude.{◌≡◌, ◌≢◌, ℕ, ◌<◌, ◌≤◌, List, length, take, drop};
+ghost use Rattle.std.specs.Prelude.{◌≡◌, ◌≢◌, ℕ, ◌<◌, ◌≤◌, Bool, true, List, length, take, drop};
 ghost use Rattle.std.specs.List.{All};
 ghost use Rattle.std.specs.List.Sorted.{IsPermutation};
 ghost use Rattle.ann_defs.specs.Nearness.{ids_of};
@@ -23,6 +23,9 @@ pub trait Pruning: Sync {
     // the row of a point, of a set of ids
     ghost pruned: { Self → ℕ → List ℕ → List ℕ };
 
+    // whether ids, in this order, are known to stay together where a point's candidates are pruned
+    ghost apart: { Self → ℕ → List ℕ → Bool };
+
     /// The points whose candidates are pruned.
     fn points(&self) -> &Points
         ensures { result.now.vectors ≡ vectors self.now };
@@ -43,7 +46,24 @@ pub trait Pruning: Sync {
         ensures rest { drop result out.new ≡ drop result out.old }
         ensures bound { result ≤ most self.now }
         ensures good { IsGoodRow (length (vectors self.now)) (most self.now) p (take result out.new) }
+        ensures apart { apart self.now p (take result out.new) ≡ true }
         ensures cands { IsPermutation cands.old cands.new };
+
+    /// The same where the first `settled` candidates are apart, as those are that an earlier prune for `p` left, in its
+    /// order: they aren't tested against each other again.
+    ///
+    /// What `cands` holds afterwards is not said.
+    fn prune_among(&self, p: u32, cands: &mut [Near], settled: usize, out: &mut [u32]) -> usize
+        requires p { p < length (vectors self.now) }
+        requires cands { AreCandidates (vectors self.now) p cands.old }
+        requires settled { settled ≤ length cands.old }
+        requires apart { apart self.now p (ids_of (take settled cands.old)) ≡ true }
+        requires room { most self.now ≤ length out.old }
+        ensures row { take result out.new ≡ pruned self.now p (ids_of cands.old) }
+        ensures rest { drop result out.new ≡ drop result out.old }
+        ensures bound { result ≤ most self.now }
+        ensures good { IsGoodRow (length (vectors self.now)) (most self.now) p (take result out.new) }
+        ensures apart { apart self.now p (take result out.new) ≡ true };
 
     // of points other than p comes a good row
     ghost good: { (s : Self) (p : ℕ) (set : List ℕ) → All (λ u. u < length (vectors s)) set → All (λ u. u ≢ p) set → IsGoodRow (length (vectors s)) (most s) p (pruned s p set) };

@@ -1,17 +1,19 @@
 //! RobustPrune over candidates that are sorted first.
-ghost use Rattle.std.specs.Prelude.{◌≡◌, ◌<◌, ◌≤◌, length, take, drop};
+ghost use Rattle.std.specs.Prelude.{◌≡◌, ◌*◌, ◌/◌, ◌<◌, ◌≤◌, nat_lt, length, take, drop};
 ghost use Rattle.std.specs.List.{All, list_all};
 ghost use Rattle.std.specs.List.Sorted.{IsPermutation};
+ghost use Rattle.ann_defs.specs.Distance.{dist_of, point};
 ghost use Rattle.ann_defs.specs.Nearness.{ids_of};
 ghost use Rattle.ann_defs.specs.Graph.{IsGoodRow};
 ghost use Rattle.ann_defs.specs.RobustPrune.{stays, kept, pruned_row};
 ghost use Rattle.robust_prune.specs.Candidates.{AreCandidates};
 ghost use Rattle.robust_prune.specs.Pruned.{IsPruned};
 
+use crate::among::prune_among;
 use crate::pruning::Pruning;
 use ann_defs::{Alpha, Near};
 use bin_files::Points;
-use lane_distance::dist;
+use lane_distance::dist_within;
 
 /// RobustPrune with its factor and the greatest length of a row (DiskANN, Algorithm 2).
 #[derive(Clone, Copy)]
@@ -26,12 +28,15 @@ impl<'p> Pruning for RobustPrune<'p> {
     ghost use Rattle.ann_defs.proofs.Alike.{prune_alike};
     ghost use Rattle.ann_defs.proofs.GoodRows.{prune_good};
     ghost use Rattle.ann_defs.proofs.Order.{All_has};
+    ghost use Rattle.robust_prune.specs.Apart.{are_apart};
 
     ghost vectors = { λ s. s.points.now.vectors };
 
     ghost most = { λ s. s.degree };
 
     ghost pruned = { λ s p set. pruned_row s.points.now.vectors p set s.alpha.num s.alpha.den s.degree };
+
+    ghost apart = { λ s p ids. are_apart s.points.now.vectors s.alpha.num s.alpha.den p ids };
 
     fn points(&self) -> &Points {
         self.points
@@ -43,6 +48,10 @@ impl<'p> Pruning for RobustPrune<'p> {
 
     fn prune(&self, p: u32, cands: &mut [Near], out: &mut [u32]) -> usize {
         prune(self.points, p, cands, self.alpha, self.degree, out)
+    }
+
+    fn prune_among(&self, p: u32, cands: &mut [Near], settled: usize, out: &mut [u32]) -> usize {
+        prune_among(self.points, p, cands, settled, self.alpha, self.degree, out)
     }
 
     ghost good = { λ s p set inside others. prune_good s.points.now.vectors p set s.alpha.num s.alpha.den s.degree (length s.points.now.vectors) (λ u h. All_has (λ v. v < length s.points.now.vectors) set u inside h) (λ u h. All_has (λ v. v ≢ p) set u others h) };
@@ -103,25 +112,45 @@ fn keep(points: &Points, cands: &[Near], alpha: Alpha, degree: u32, out: &mut [u
 }
 
 // Whether the candidate stays beside each id of the row.
-fn stays_beside_all(points: &Points, alpha: Alpha, row: &[u32], candidate: Near) -> bool
+pub(crate) fn stays_beside_all(points: &Points, alpha: Alpha, row: &[u32], candidate: Near) -> bool
     requires row { All (λ c. c < length points.now.vectors) row.now }
     requires candidate { candidate.id < length points.now.vectors }
     ensures { result ≡ list_all (λ c. stays points.now.vectors alpha.num alpha.den c candidate) row.now }
 {
+    is_beyond_all(
+        points,
+        row,
+        candidate.id,
+        most_covered(alpha, candidate.dist),
+    )
+}
+
+// Whether a point is farther than that from each id of the row.
+fn is_beyond_all(points: &Points, row: &[u32], id: u32, most: u32) -> bool
+    requires row { All (λ c. c < length points.now.vectors) row.now }
+    requires id { id < length points.now.vectors }
+    ensures { result ≡ list_all (λ c. nat_lt most (dist_of (point points.now.vectors c) (point points.now.vectors id))) row.now }
+{
     for neighbour in row {
-        if !stays_beside(points, alpha, *neighbour, candidate) {
+        if !is_beyond(points, *neighbour, id, most) {
             return false;
         }
     }
     true
 }
 
-// Whether the candidate stays beside an id.
-fn stays_beside(points: &Points, alpha: Alpha, neighbour: u32, candidate: Near) -> bool
-    requires neighbour { neighbour < length points.now.vectors }
-    requires candidate { candidate.id < length points.now.vectors }
-    ensures { result ≡ stays points.now.vectors alpha.num alpha.den neighbour candidate }
+// The greatest squared distance to a kept id at which that one removes a candidate with this distance to the point.
+pub(crate) fn most_covered(alpha: Alpha, dist: u32) -> u32
+    ensures { result ≡ alpha.den * dist / alpha.num }
 {
-    let apart = dist(points.at(neighbour), points.at(candidate.id));
-    (alpha.den as u64 * candidate.dist as u64) < alpha.num as u64 * apart as u64
+    (alpha.den as u64 * dist as u64 / alpha.num as u64) as u32
+}
+
+// Whether a point is farther than that from an id. The distance is taken only as far as that shows.
+pub(crate) fn is_beyond(points: &Points, neighbour: u32, id: u32, most: u32) -> bool
+    requires neighbour { neighbour < length points.now.vectors }
+    requires id { id < length points.now.vectors }
+    ensures { result ≡ nat_lt most (dist_of (point points.now.vectors neighbour) (point points.now.vectors id)) }
+{
+    most < dist_within(points.at(neighbour), points.at(id), most)
 }

@@ -2,3 +2,4 @@ pub mod Plans
 pub mod NewRowFacts
 pub mod Stepping
 pub mod NextBatch
+pub mod SettledRows

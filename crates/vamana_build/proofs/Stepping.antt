@@ -70,6 +70,14 @@ module _ (points : List (List ℕ)) (s : VamanaSettings) (starts : start_of poin
         let place : k % pass + 1 ≡ suc k = ap (λ j. j + 1) (mod-eq_of_lt within) ∙ next in
         λ i. batch_step (at_last pass i) (rows_at points s k) (batch_at order cap (place i))
 
+    -- the rows after the batch, in ascending order, are the next graph's
+    pub next_row : (u : ℕ) → u < n → last_row_of b (rows_at points s k) (ordered nat_cmp batch_of) u ≡ row_in (rows_at points s (k + 1)) u
+    next_row u at =
+        last_row_sorted b (rows_at points s k) batch_of u
+        ∙ sym (get_or-map-range_with_len (last_row_of b (rows_at points s k) batch_of) 0 n u u [] at (omega arith))
+        ∙ ap (λ (rows : List (List ℕ)). row_in rows u) (sym step_is)
+        ∙ ap (λ m. row_in (rows_at points s m) u) (sym next)
+
     -- the rows that differ after the batch, in ascending order, are the change
     pub change_right : differing (row_in (rows_at points s k)) (last_row_of b (rows_at points s k) (ordered nat_cmp batch_of)) (range_with_len 0 n) ≡ (change_at points s k).rows
     change_right =

@@ -3,3 +3,4 @@ pub mod Wanted
 pub mod Changes
 pub mod Building
 pub mod VamanaIndex
+pub mod Settled

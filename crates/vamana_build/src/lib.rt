@@ -13,6 +13,7 @@ mod plan;
 mod posts;
 mod row;
 mod settings;
+mod settled;
 mod step;
 mod vamana;
 

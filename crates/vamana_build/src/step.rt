@@ -3,10 +3,12 @@ ghost use Rattle.std.specs.Prelude.{◌≡◌, ◌+◌, ◌<◌, ◌≤◌, IfOk
 ghost use Rattle.ann_defs.specs.declared.limits.TheConstants.{MAX_POINTS};
 ghost use Rattle.std.specs.List.{All};
 ghost use Rattle.std.specs.Ordering.{nat_cmp};
+ghost use Rattle.ann_defs.specs.Graph.{row_in};
 ghost use Rattle.ann_defs.specs.Ordered.{ordered};
 ghost use Rattle.ann_defs.specs.BatchInsert.{bound_at};
 ghost use Rattle.steal_pool.specs.Work.{AllServe};
-ghost use Rattle.vamana_build.specs.Builds.{batches_of, graph_at};
+ghost use Rattle.vamana_build.specs.Builds.{batches_of, graph_at, rows_at};
+ghost use Rattle.vamana_build.specs.Settled.{AreSettled};
 ghost use Rattle.vamana_build.specs.Changes.{change_at};
 ghost use Rattle.beam_search.specs.Serving.{Serves};
 
@@ -23,6 +25,9 @@ use std::thread::Threads;
 use steal_pool::{Post, Rounds};
 
 /// The change by the batch after the first `k`, whose points stand from `from` to `to` in the order.
+///
+/// `counts` tells how many ids at the front of each row one prune left together, and is brought on to the next graph. A
+/// failure leaves it as it was.
 pub(crate) fn change_of<R: Threads + Sync, P: Rounds, G: Gate + Sync>(
     rt: &R,
     alloc: Global,
@@ -32,6 +37,7 @@ pub(crate) fn change_of<R: Threads + Sync, P: Rounds, G: Gate + Sync>(
     from: u32,
     to: u32,
     graph: &FlatGraph,
+    counts: &mut [u8],
     posts: &mut [Post<Scratch>],
     gate: &G,
 ) -> Result<BatchChange, NoMemory>
@@ -42,9 +48,12 @@ pub(crate) fn change_of<R: Threads + Sync, P: Rounds, G: Gate + Sync>(
     requires few { k < MAX_POINTS }
     requires left { k < batches_of plan.now.points.now.vectors plan.now.settings }
     requires graph { graph.now ≡ graph_at plan.now.points.now.vectors plan.now.settings k }
+    requires settled { AreSettled plan.now.points.now.vectors plan.now.settings (row_in (rows_at plan.now.points.now.vectors plan.now.settings k)) counts.old }
     requires posts { length posts.old ≡ P.count pool.old }
     requires serve { AllServe (Serves (length plan.now.points.now.vectors) plan.now.settings.beam) posts.old }
     ensures change { IfOk result (λ c. c ≡ change_at plan.now.points.now.vectors plan.now.settings k) }
+    ensures settled { IfOk result (λ _. AreSettled plan.now.points.now.vectors plan.now.settings (row_in (rows_at plan.now.points.now.vectors plan.now.settings (k + 1))) counts.new) }
+    ensures as_before { OnErr result (counts.new ≡ counts.old) }
     ensures serve { AllServe (Serves (length plan.now.points.now.vectors) plan.now.settings.beam) posts.new }
     ensures workers { P.count pool.new ≡ P.count pool.old }
 {
@@ -55,6 +64,6 @@ pub(crate) fn change_of<R: Threads + Sync, P: Rounds, G: Gate + Sync>(
         graph,
         batch: batch.as_slice(),
     };
-    let changed = rows_changed(rt, alloc, pool, &rows, posts, gate)?;
+    let changed = rows_changed(rt, alloc, pool, &rows, counts, posts, gate)?;
     Ok(BatchChange::new(k + 1, changed))
 }

@@ -28,6 +28,8 @@ use steal_pool::{Post, Rounds};
 pub struct Vamana<'p> {
     plan: &'p Plan<'p>,
     graph: FlatGraph,
+    // How many ids at the front of each row one prune left together: a later one doesn't test these against each other.
+    settled: Vec<u8>,
     batch: u32,
     // The batches after the next one, and the places of the next one in the order.
     batches: Batches,
@@ -39,31 +41,36 @@ pub struct Vamana<'p> {
 
 impl<'p> Model for Vamana<'p> {
     ghost use Rattle.std.specs.Prelude.{◌≡◌, [], length};
+    ghost use Rattle.ann_defs.specs.Graph.{row_in};
+    ghost use Rattle.vamana_build.specs.Builds.{rows_at};
     ghost use Rattle.vamana_build.specs.Building.{Building, IsBuilt};
+    ghost use Rattle.vamana_build.specs.Settled.{AreSettled};
 
     ghost Value = { Building };
 
     ghost view = { λ v. record { points = v.plan.now.points.now.vectors; settings = v.plan.now.settings; batch = v.batch; workers = length v.posts.items } };
 
-    ghost invariant = { λ v. IsBuilt v.plan.now.points.now.vectors v.plan.now.settings v.batch v.graph v.batches v.next v.posts.items × (v.upper.items ≡ []) };
+    ghost invariant = { λ v. IsBuilt v.plan.now.points.now.vectors v.plan.now.settings v.batch v.graph v.batches v.next v.posts.items × (v.upper.items ≡ []) × AreSettled v.plan.now.points.now.vectors v.plan.now.settings (row_in (rows_at v.plan.now.points.now.vectors v.plan.now.settings v.batch)) v.settled.items };
 }
 
 impl<'p> Vamana<'p> {
     /// The build before its first batch: all rows are empty.
     ///
     /// All memory of the graph and of the workers' searches is taken here: 4 bytes for each of the points' `degree + 1`
-    /// words, and for each worker a scratch.
+    /// words, a byte for each point, and for each worker a scratch.
     pub fn new(alloc: Global, plan: &'p Plan<'p>, workers: u32) -> Result<Vamana<'p>, NoMemory>
         requires { (1 ≤ workers) × (workers ≤ MAX_WORKERS) }
         ensures { IfOk result (λ v. v ≡ record { points = plan.now.points.now.vectors; settings = plan.now.settings; batch = 0; workers = workers }) }
     {
         let graph = FlatGraph::new(alloc, plan.points.count(), plan.settings.degree)?;
+        let settled = vec![in alloc; 0u8; plan.points.count() as usize]?;
         let posts = posts_for(alloc, plan, workers)?;
         let mut batches = Batches::new(plan.points.count(), plan.cap);
         let next = batches.next();
         Ok(Vamana {
             plan,
             graph,
+            settled,
             batch: 0,
             batches,
             next,
@@ -131,6 +138,7 @@ impl<'p> Vamana<'p> {
             from,
             to,
             &self.graph,
+            self.settled.as_mut_slice(),
             self.posts.as_mut_slice(),
             gate,
         )?;

@@ -47,6 +47,7 @@ invariant_of-work g c =
     record {
       grouped = ap (λ (p : Proposed). p.grouped) c.group.ensures;
       targets = targets_are n bound (g.O.Rows.held c.args.old.now) (g.O.Rows.row_of c.args.old.now) (g.F.Rows.held c.args.fresh.now) (g.F.Rows.row_of c.args.fresh.now) c.args.ids.now c.requires.batch (g.M.Merging.merged m) c.in_ok-proposals.proposals c.group.new.self c.group.ensures c.in_ok-proposals.ensures.0;
+      known = λ t h. c.requires.known t ((targets_are n bound (g.O.Rows.held c.args.old.now) (g.O.Rows.row_of c.args.old.now) (g.F.Rows.held c.args.fresh.now) (g.F.Rows.row_of c.args.fresh.now) c.args.ids.now c.requires.batch (g.M.Merging.merged m) c.in_ok-proposals.proposals c.group.new.self c.group.ensures c.in_ok-proposals.ensures.0).held_all t h);
       narrow = one_fits n (bound + 1) 134217728 c.requires.some c.requires.words;
     }
 

@@ -1,4 +1,4 @@
-use Rattle.std.proofs.Common.{◌≡◌, ◌≤◌, ◌+◌, ◌∙◌, ap, sym, subst, ℕ, List, length, arith, IfOk}
+use Rattle.std.proofs.Common.{◌≤◌, ◌+◌, ◌∙◌, ap, sym, subst, ℕ, List, length, arith}
 use Rattle.std.specs.Prelude.{slice_index}
 use Rattle.std.specs.List.{All}
 use Rattle.std.proofs.lemmas.List.{length-map}
@@ -6,8 +6,7 @@ use Rattle.ann_defs.specs.BatchInsert.{new_row_of}
 use Rattle.batch_insert.specs.Padded.{padded}
 use Rattle.batch_insert.proofs.Padding.{blocks_whole}
 use Rattle.vamana_build.specs.Builds.{build_of}
-use Rattle.vamana_build.proofs.Plans.{start_below}
-use Rattle.vamana_build.proofs.NewRowFacts.{new_row_short, batch_fits, changed_right}
+use Rattle.vamana_build.proofs.NewRowFacts.{new_row_short}
 use Rattle.vamana_build.proofs.batch.rows_changed.Goals as goal
 
 pub invariant_of-fresh : goal.invariant_of-fresh
@@ -22,15 +21,3 @@ invariant_of-fresh g c =
       few = let few = w.few in let limit = w.plan.now.count.1 in omega (arith, few, limit);
       whole = subst (All (λ block. slice_index block 0 + 1 ≤ length block)) (sym right) (blocks_whole (new_row_of b rows) b.degree w.batch.now w.ascend (λ u _. new_row_short b rows u));
     }
-
-pub changed_rows-requires-clause-batch : goal.changed_rows-requires-clause-batch
-changed_rows-requires-clause-batch g c κs within =
-    let w = c.args.rows.now in
-    let b = build_of w.plan.now.points.now.vectors w.plan.now.settings in
-    batch_fits b (start_below w.plan.now) w.graph.now.rows w.good w.batch.now w.ascend w.batch_fits c.in_ok-blocks.blocks c.in_ok-blocks.ensures.blocks
-
-pub returns-clause-rows : goal.returns-clause-rows
-returns-clause-rows g c =
-    let w = c.args.rows.now in
-    let b = build_of w.plan.now.points.now.vectors w.plan.now.settings in
-    subst (λ (es : List (ℕ × List ℕ)). IfOk c.changed_rows.result (λ (x : List (ℕ × List ℕ)). x ≡ es)) (changed_right b (start_below w.plan.now) w.graph.now.rows w.good w.batch.now w.ascend w.batch_fits c.in_ok-blocks.blocks c.in_ok-blocks.ensures.blocks) c.changed_rows.ensures.rows

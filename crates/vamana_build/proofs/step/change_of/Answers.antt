@@ -7,12 +7,14 @@ use Rattle.ann_defs.specs.Ordered.{Ascends, ordered}
 use Rattle.ann_defs.specs.BatchInsert.{last_row_of}
 use Rattle.graph_rows.specs.Flat.{Flat}
 use Rattle.vamana_build.specs.declared.settings.VamanaSettings.{VamanaSettings}
-use Rattle.vamana_build.specs.Builds.{order_of, batches_of, build_of, start_of, graph_at}
+use Rattle.vamana_build.specs.Builds.{order_of, batches_of, build_of, start_of, rows_at, graph_at}
+use Rattle.vamana_build.specs.Settled.{AreSettled}
 use Rattle.vamana_build.specs.Changes.{Change, change_at}
 use Rattle.batch_insert.specs.Changes.{differing}
 use Rattle.batch_insert.proofs.Ascending.{All-ordered, some_ordered}
 use Rattle.vamana_build.proofs.Plans.{start_below, batch_is}
-use Rattle.vamana_build.proofs.Stepping.{rows_good, batch_of, change_right}
+use Rattle.vamana_build.proofs.Stepping.{rows_good, batch_of, change_right, next_row}
+use Rattle.vamana_build.proofs.SettledRows.{settled_same}
 use Rattle.vamana_build.proofs.step.change_of.Goals as goal
 
 pub invariant_of-rows : goal.invariant_of-rows
@@ -44,6 +46,24 @@ rows_changed-requires-clause-some g c κs within =
     let whole = plan.whole in
     let some : 0 < length part = simp (length-take, length-drop) (omega (arith, whole)) in
     subst (λ (xs : List ℕ). 0 < length xs) (sym sorted) (some_ordered part some)
+
+pub rows_changed-requires-clause-settled : goal.rows_changed-requires-clause-settled
+rows_changed-requires-clause-settled g c κs within =
+    let plan = c.args.plan.now in
+    subst (λ (f : Flat). AreSettled plan.points.now.vectors plan.settings (row_in f.rows) c.args.counts.now) (sym c.requires.graph) c.requires.settled
+
+pub returns-clause-settled : goal.returns-clause-settled
+returns-clause-settled g c =
+    let plan = c.args.plan.now in
+    let points = plan.points.now.vectors in
+    let s = plan.settings in
+    let part = take (c.args.to - c.args.from) (drop c.args.from plan.order.items) in
+    let items : c.in_ok-batch.batch.items ≡ take (c.args.to - c.args.from) (drop c.args.from c.deref.result.now) = search rules in
+    let list : c.in_ok-batch.batch.items ≡ part = items ∙ ap (λ (xs : List ℕ). take (c.args.to - c.args.from) (drop c.args.from xs)) c.deref.ensures.value in
+    let sorted = c.as_slice.ensures.value ∙ c.sort_ids.ensures.items ∙ ap (ordered nat_cmp) (list ∙ batch_is plan c.args.k c.args.from c.args.to c.requires.from c.requires.to) in
+    settled_same points s _ (row_in (rows_at points s (c.args.k + 1))) c.rows_changed.new.counts (next_row points s (start_below plan) c.args.k (sym (ap length plan.ordered) ∙ plan.whole) c.requires.left)
+    (subst (λ (f : Flat). AreSettled points s (last_row_of (build_of points s) f.rows (ordered nat_cmp (batch_of points s (start_below plan) c.args.k))) c.rows_changed.new.counts) c.requires.graph
+    (subst (λ (ids : List ℕ). AreSettled points s (last_row_of (build_of points s) c.args.graph.now.rows ids) c.rows_changed.new.counts) sorted c.in_ok-changed.ensures.settled))
 
 pub returns-clause-change : goal.returns-clause-change
 returns-clause-change g c =

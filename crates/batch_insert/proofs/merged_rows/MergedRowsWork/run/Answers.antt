@@ -1,4 +1,4 @@
-use Rattle.std.proofs.Common.{◌≡◌, ◌∙◌, ◌+◌, ◌-◌, ◌<◌, ap, sym, subst, ℕ, List, [], length, get_or, drop, arith, length-take, length-drop}
+use Rattle.std.proofs.Common.{◌≡◌, true, ◌∙◌, ◌+◌, ◌-◌, ◌<◌, ap, sym, subst, ℕ, List, [], length, get_or, drop, arith, length-take, length-drop}
 use Rattle.std.proofs.lemmas.List.{length-map, get_or-map}
 use Rattle.std.proofs.lemmas.List.Elements.{Contains-get_or}
 use Rattle.ann_defs.specs.Graph.{IsGoodRow}
@@ -36,6 +36,13 @@ merge-len-requires-clause-row g c =
     let targets = targets_of w.proposals.now.pairs in
     subst (IsGoodRow (g.M.Merging.count w.merging.now) (g.M.Merging.most w.merging.now) c.target-target.result) (sym c.row-row.ensures)
     (w.targets.good c.target-target.result (there targets _ c.args.task c.target-target.result (length-map targets _) c.requires.task c.target-target.ensures))
+
+pub merge-len-requires-clause-known : goal.merge-len-requires-clause-known
+merge-len-requires-clause-known g c =
+    let w = c.args.self.now in
+    let targets = targets_of w.proposals.now.pairs in
+    subst (λ (row : List ℕ). g.M.Merging.knows w.merging.now c.target-target.result row ≡ true) (sym c.row-row.ensures)
+    (w.known c.target-target.result (there targets _ c.args.task c.target-target.result (length-map targets _) c.requires.task c.target-target.ensures))
 
 pub merge-len-requires-clause-sources : goal.merge-len-requires-clause-sources
 merge-len-requires-clause-sources g c =
