@@ -1,12 +1,12 @@
 //! Rounds compute active points alone: the tasks that begin are counted, and the lists compared with those from scratch.
 ghost use Rattle.std.specs.Prelude.{◌≡◌, ◌≤◌, IfOk, length};
-ghost use Rattle.nn_descent.specs.Held.{BelongTo};
+ghost use Rattle.neighbour_lists.specs.Held.{BelongTo};
 
 use crate::line::{line, planted};
 use crate::plain::{Seen, active, arounds, changed, next_rows, rows_of};
 use ann_shelf::{FreeGate, Gate, NoMemory};
 use bin_files::Points;
-use nn_descent::Lists;
+use neighbour_lists::Lists;
 use pivot_trees::Tree;
 use seeded_order::made_points;
 use std::alloc::Global;

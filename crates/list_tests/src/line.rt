@@ -1,12 +1,13 @@
 //! Lists of a line of four points, worked out by hand.
 ghost use Rattle.std.specs.Prelude.{◌≡◌, ◌≤◌, IfOk, length};
-ghost use Rattle.nn_descent.specs.Held.{BelongTo};
+ghost use Rattle.neighbour_lists.specs.Held.{BelongTo};
 
 use ann_defs::{Alpha, Kind, StartKind};
 use ann_shelf::{FreeGate, NoMemory};
 use bin_files::Points;
 use graph_rows::{FlatGraph, Rows};
-use nn_descent::{Lists, NndSettings, build_nnd, search_graph};
+use neighbour_lists::Lists;
+use nn_descent::{NndSettings, build_nnd, search_graph};
 use pivot_trees::Tree;
 use std::alloc::Global;
 use std::process::Abort;

@@ -3,7 +3,7 @@ use ann_defs::Near;
 use ann_shelf::NoMemory;
 use bin_files::Points;
 use lane_distance::dist;
-use nn_descent::Lists;
+use neighbour_lists::Lists;
 use std::alloc::Global;
 
 // The rows of lists.

@@ -6,7 +6,7 @@ use Rattle.std.proofs.lemmas.Bool.Decides.{nat_tests}
 use Rattle.std.proofs.lemmas.List.Sums.{fold-append}
 use Rattle.batch_insert.proofs.Differing.{range_more}
 use Rattle.nn_descent.specs.declared.settings.NndSettings.{NndSettings}
-use Rattle.nn_descent.specs.ListRound.{next_rows, changed}
+use Rattle.neighbour_lists.specs.ListRound.{next_rows, changed}
 use Rattle.ann_defs.specs.declared.kinds.StartKind.{StartKind}
 use Rattle.ann_defs.specs.declared.kinds.StartKind.TheVariants.{First, Medoid}
 use Rattle.seeded_order.proofs.Insertions.{medoid_below}

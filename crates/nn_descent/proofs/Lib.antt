@@ -1,17 +1,3 @@
-pub mod NewRows
-pub mod Offers
-pub mod Reversing
-pub mod EdgeOrder
-pub mod NearestLists
-pub mod Neighbourhoods
-pub mod Joining
-pub mod Past
-pub mod Freshness
-pub mod EdgeFacts
-pub mod Belonging
-pub mod Counting
-pub mod LeafRows
-pub mod Activity
 pub mod SidesFacts
 pub mod GraphFacts
 pub mod Improving

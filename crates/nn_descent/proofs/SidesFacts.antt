@@ -18,10 +18,10 @@ use Rattle.ann_defs.proofs.GoodRows.{rising_once}
 use Rattle.ann_defs.proofs.Members.{all_from_has, has-mapped, has-append, append-has, has-filter, filter_has, has_true, true_has, same_bool, range_has, distinct_once}
 use Rattle.near_lists.specs.Gathered.{gathered, IsGathered}
 use Rattle.near_lists.proofs.Gathering.{is_gathered}
-use Rattle.nn_descent.specs.declared.edge.Edge.{Edge}
-use Rattle.nn_descent.specs.Edges.{edges_of}
-use Rattle.nn_descent.specs.ListRound.{sources_of}
-use Rattle.nn_descent.proofs.Reversing.{sources_are}
+use Rattle.neighbour_lists.specs.declared.edge.Edge.{Edge}
+use Rattle.neighbour_lists.specs.Edges.{edges_of}
+use Rattle.neighbour_lists.specs.ListRound.{sources_of}
+use Rattle.neighbour_lists.proofs.Reversing.{sources_are}
 
 module _ (points rows : List (List ℕ)) (list v : ℕ) (good : AreGoodRows (length points) list rows) where
   abbrev pub edges_to : List Edge

@@ -1,13 +1,3 @@
-pub mod ListRound
 pub mod SearchGraph
-pub mod Settled
-pub mod Edges
-pub mod Held
 pub mod NndIndex
-pub mod Reversed
-pub mod Fresh
-pub mod Offering
-pub mod WrittenRows
-pub mod Rounds
-pub mod Changes
 pub mod Sides

@@ -8,7 +8,7 @@ use Rattle.graph_rows.specs.Index.{Contents, flat_contents}
 use Rattle.seeded_order.specs.Medoid.{medoid_of}
 use Rattle.pivot_trees.specs.Leaves.{leaves_of, leaf_with}
 use Rattle.nn_descent.specs.declared.settings.NndSettings.{NndSettings}
-use Rattle.nn_descent.specs.ListRound.{with_leaves, next_rows, changed}
+use Rattle.neighbour_lists.specs.ListRound.{with_leaves, next_rows, changed}
 use Rattle.nn_descent.specs.SearchGraph.{graph_rows}
 
 -- where searches start

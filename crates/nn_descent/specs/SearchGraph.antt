@@ -11,7 +11,7 @@ use Rattle.ann_defs.specs.Ordered.{ordered}
 use Rattle.ann_defs.specs.Graph.{without, row_in}
 use Rattle.ann_defs.specs.RobustPrune.{stays, pruned, pruned_row}
 use Rattle.ann_defs.proofs.GoodRows.{kept_short}
-use Rattle.nn_descent.specs.ListRound.{sources_of}
+use Rattle.neighbour_lists.specs.ListRound.{sources_of}
 
 module _ (points rows : List (List ℕ)) (num den degree : ℕ) where
   -- the row of v

@@ -3,16 +3,16 @@ ghost use Rattle.std.specs.Prelude.{◌≡◌, ◌+◌, ◌-◌, ◌*◌, ◌<�
 ghost use Rattle.ann_defs.specs.declared.limits.TheConstants.{MAX_DEGREE, MAX_WORDS};
 ghost use Rattle.graph_rows.specs.View.{contents};
 ghost use Rattle.graph_rows.specs.WellFormed.{IsWellFormed};
-ghost use Rattle.nn_descent.specs.Held.{BelongTo};
+ghost use Rattle.neighbour_lists.specs.Held.{BelongTo};
 ghost use Rattle.nn_descent.specs.NndIndex.{start_of, planted, improved, nnd_index};
 
-use crate::lists::Lists;
 use crate::pruned_graph::search_graph;
 use crate::settings::NndSettings;
 use ann_defs::{Kind, StartKind};
 use ann_shelf::{Gate, NoMemory};
 use bin_files::Points;
 use graph_rows::Index;
+use neighbour_lists::Lists;
 use pivot_trees::Tree;
 use seeded_order::medoid;
 use std::alloc::Global;

@@ -3,18 +3,16 @@ ghost use Rattle.std.specs.Prelude.{◌≡◌, ◌+◌, ◌*◌, ◌≤◌, IfOk
 ghost use Rattle.std.proofs.Props.{props};
 ghost use Rattle.ann_defs.specs.declared.limits.TheConstants.{MAX_DEGREE, MAX_WORDS};
 ghost use Rattle.ann_defs.specs.Graph.{AreGoodRows};
-ghost use Rattle.nn_descent.specs.Edges.{edges_of};
-ghost use Rattle.nn_descent.specs.Held.{BelongTo};
+ghost use Rattle.neighbour_lists.specs.Edges.{edges_of};
+ghost use Rattle.neighbour_lists.specs.Held.{BelongTo};
 ghost use Rattle.nn_descent.specs.SearchGraph.{graph_rows};
 
-use crate::edges::Edges;
-use crate::lists::Lists;
-use crate::row_tasks::{RowRule, put_rows};
 use crate::sides::{Sides, gather_sides, posts_for};
 use ann_defs::Alpha;
 use ann_shelf::{Gate, NoMemory};
 use bin_files::Points;
 use graph_rows::FlatGraph;
+use neighbour_lists::{Edges, Lists, RowRule, put_rows};
 use robust_prune::prune;
 use seeded_order::file_order;
 use std::alloc::Global;
@@ -89,25 +87,25 @@ pub fn search_graph<R: Threads + Sync, P: Rounds, G: Gate + Sync>(
     ensures good { IfOk result (λ g. AreGoodRows (length points.now.vectors) degree g.rows) }
     ensures workers { P.count pool.new ≡ P.count pool.old }
 {
-    if lists.sorted {
+    if lists.is_sorted() {
         return pruned_rows(
             rt,
             alloc,
             points,
-            &lists.rows,
-            &lists.edges,
+            lists.rows(),
+            lists.edges(),
             degree,
             alpha,
             pool,
             gate,
         );
     }
-    let edges = Edges::of(alloc, points, &lists.rows)?;
+    let edges = Edges::of(alloc, points, lists.rows())?;
     pruned_rows(
         rt,
         alloc,
         points,
-        &lists.rows,
+        lists.rows(),
         &edges,
         degree,
         alpha,

@@ -5,17 +5,16 @@ ghost use Rattle.steal_pool.specs.Work.{AllServe};
 ghost use Rattle.ann_defs.specs.Graph.{without, row_in, AreGoodRows};
 ghost use Rattle.ann_defs.specs.Nearness.{ids_of};
 ghost use Rattle.near_lists.specs.Gathered.{IsGathered};
-ghost use Rattle.nn_descent.specs.Edges.{edges_of};
-ghost use Rattle.nn_descent.specs.ListRound.{sources_of};
+ghost use Rattle.neighbour_lists.specs.Edges.{edges_of};
+ghost use Rattle.neighbour_lists.specs.ListRound.{sources_of};
 ghost use Rattle.nn_descent.specs.Sides.{ServesSides};
 
-use crate::edge::Edge;
-use crate::edges::Edges;
 use ann_defs::{MAX_DEGREE, Near};
 use ann_shelf::NoMemory;
 use bin_files::Points;
 use graph_rows::FlatGraph;
 use near_lists::{gather, next_stamp};
+use neighbour_lists::{Edge, Edges};
 use std::alloc::Global;
 use steal_pool::{Post, posts_of};
 

@@ -1,4 +1,4 @@
-use Rattle.nn_descent.specs.Held.{BelongTo}
+use Rattle.neighbour_lists.specs.Held.{BelongTo}
 use Rattle.list_tests.proofs.active.tasks_of_rounds.Given as goal
 
 abbrev pub invariant-loop-r : goal.invariant-loop-r

@@ -1,5 +1,5 @@
 use Rattle.std.proofs.Common.{◌≡◌, ◌-◌}
-use Rattle.nn_descent.specs.Held.{BelongTo}
+use Rattle.neighbour_lists.specs.Held.{BelongTo}
 use Rattle.nn_descent.specs.NndIndex.{improved}
 use Rattle.nn_descent.proofs.build.improve.Given as goal
 

@@ -1,6 +1,6 @@
 use Rattle.std.proofs.Common.{◌∙◌, sym}
 use Rattle.pivot_trees.specs.Leaves.{leaf_with}
-use Rattle.nn_descent.specs.ListRound.{with_leaves}
+use Rattle.neighbour_lists.specs.ListRound.{with_leaves}
 use Rattle.nn_descent.proofs.Improving.{planted_more}
 use Rattle.nn_descent.proofs.build.planted_lists.Goals as goal
 

@@ -1,5 +1,5 @@
 use Rattle.std.proofs.Common.{◌≡◌}
-use Rattle.nn_descent.specs.Held.{BelongTo}
+use Rattle.neighbour_lists.specs.Held.{BelongTo}
 use Rattle.nn_descent.specs.NndIndex.{planted}
 use Rattle.nn_descent.proofs.build.planted_lists.Given as goal
 

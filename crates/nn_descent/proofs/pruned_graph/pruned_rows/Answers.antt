@@ -5,8 +5,9 @@ use Rattle.ann_defs.specs.Graph.{AreGoodRows}
 use Rattle.graph_rows.specs.Flat.{Flat}
 use Rattle.seeded_order.specs.Order.{file_order_of}
 use Rattle.nn_descent.specs.SearchGraph.{graph_row}
-use Rattle.nn_descent.specs.WrittenRows.{with_rows}
-use Rattle.nn_descent.proofs.GraphFacts.{all_inside, all_written, graph_good}
+use Rattle.neighbour_lists.specs.WrittenRows.{with_rows}
+use Rattle.neighbour_lists.proofs.AllRows.{all_inside, all_written}
+use Rattle.nn_descent.proofs.GraphFacts.{graph_good}
 use Rattle.nn_descent.proofs.pruned_graph.pruned_rows.Goals as goal
 
 pub put_rows-requires-clause-inside : goal.put_rows-requires-clause-inside

@@ -1,5 +1,5 @@
 use Rattle.std.proofs.Common.{◌≡◌, length, map, take}
-use Rattle.nn_descent.specs.declared.edge.Edge.{Edge}
+use Rattle.neighbour_lists.specs.declared.edge.Edge.{Edge}
 use Rattle.nn_descent.proofs.sides.copy_sources.Given as goal
 
 abbrev pub invariant-loop-edge : goal.invariant-loop-edge

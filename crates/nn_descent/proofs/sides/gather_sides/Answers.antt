@@ -6,9 +6,9 @@ use Rattle.ann_defs.specs.Distance.{point}
 use Rattle.ann_defs.specs.Nearness.{all_near}
 use Rattle.ann_defs.specs.Graph.{row_in}
 use Rattle.near_lists.specs.Gathered.{gathered, IsGathered}
-use Rattle.nn_descent.specs.declared.edge.Edge.{Edge}
-use Rattle.nn_descent.specs.ListRound.{sources_of}
-use Rattle.nn_descent.proofs.Offers.{written_is}
+use Rattle.neighbour_lists.specs.declared.edge.Edge.{Edge}
+use Rattle.neighbour_lists.specs.ListRound.{sources_of}
+use Rattle.neighbour_lists.proofs.Offers.{written_is}
 use Rattle.nn_descent.proofs.SidesFacts.{edges_to, sources_few, sources_inside, both_gathered}
 use Rattle.nn_descent.proofs.sides.gather_sides.Goals as goal
 

@@ -27,56 +27,48 @@ module _ (w : Splits) (i : ℕ) (lt : i < length w.lists.now) where
       let all = ap (λ (bs : List (List ℕ)). length bs) same in
       omega (arith, many, all, lt)
 
-  its_block : (blocks : List (List ℕ)) (words : List ℕ) → blocks ≡ blocks_in w → words ≡ get_or blocks i [] → words ≡ block_of w.width parts
-  its_block blocks words same read = read ∙ ap (λ (bs : List (List ℕ)). get_or bs i []) same ∙ block_is w.splitter.now.points.now.vectors w.splitter.now.seed w.splitter.now.tree w.splitter.now.depth w.width w.number w.lists.now i lt
-
   its_split : get_or (splits_in w) i ([], []) ≡ parts
   its_split = split_is w.splitter.now.points.now.vectors w.splitter.now.seed w.splitter.now.tree w.splitter.now.depth w.width w.number w.lists.now i lt
 
   in_splits : i < length (splits_in w)
   in_splits = let many = many_splits w.splitter.now.points.now.vectors w.splitter.now.seed w.splitter.now.tree w.splitter.now.depth w.width w.number w.lists.now in omega (arith, many, lt)
 
+-- the block as it is read
+module _ (w : Splits) (i : ℕ) (lt : i < length w.lists.now) (blocks : List (List ℕ)) (words : List ℕ) (same : blocks ≡ blocks_in w) (read : words ≡ get_or blocks i []) where
+  its_block : words ≡ block_of w.width (parts w i lt)
+  its_block = read ∙ ap (λ (bs : List (List ℕ)). get_or bs i []) same ∙ block_is w.splitter.now.points.now.vectors w.splitter.now.seed w.splitter.now.tree w.splitter.now.depth w.width w.number w.lists.now i lt
+
+  room : length (list w i lt) + 1 ≤ length words
+  room = words_room w.width (list w i lt) words (parts w i lt) (split w i lt) its_block (get_or words 0 0) refl
+
+  low : get_or words 0 0 ≤ length (list w i lt)
+  low = left_low w.width (list w i lt) words (parts w i lt) (split w i lt) its_block (get_or words 0 0) refl
+
 pub get-words-requires : goal.get-words-requires
 get-words-requires c = there c.args.splits.now c.loop-i.i c.loop-i-test.true c.args.blocks.now c.requires
 
 pub bounds-words-0 : goal.bounds-words-0
 bounds-words-0 c =
-    let w = c.args.splits.now in
-    let i = c.loop-i.i in
-    let words = c.get-words.result.now in
-    let is = its_block w i c.loop-i-test.true c.args.blocks.now words c.requires c.get-words.ensures in
-    let room = words_room w.width (list w i c.loop-i-test.true) words (parts w i c.loop-i-test.true) (split w i c.loop-i-test.true) is (get_or words 0 0) refl in
-    omega (arith, room)
+    let wide = room c.args.splits.now c.loop-i.i c.loop-i-test.true c.args.blocks.now c.get-words.result.now c.requires c.get-words.ensures in
+    omega (arith, wide)
 
 pub part_of-requires-clause-within : goal.part_of-requires-clause-within
 part_of-requires-clause-within c =
-    let w = c.args.splits.now in
-    let i = c.loop-i.i in
-    let words = c.get-words.result.now in
-    let is = its_block w i c.loop-i-test.true c.args.blocks.now words c.requires c.get-words.ensures in
-    let room = words_room w.width (list w i c.loop-i-test.true) words (parts w i c.loop-i-test.true) (split w i c.loop-i-test.true) is (get_or words 0 0) refl in
-    let low = left_low w.width (list w i c.loop-i-test.true) words (parts w i c.loop-i-test.true) (split w i c.loop-i-test.true) is (get_or words 0 0) refl in
-    omega (arith, room, low)
+    let wide = room c.args.splits.now c.loop-i.i c.loop-i-test.true c.args.blocks.now c.get-words.result.now c.requires c.get-words.ensures in
+    let left = low c.args.splits.now c.loop-i.i c.loop-i-test.true c.args.blocks.now c.get-words.result.now c.requires c.get-words.ensures in
+    omega (arith, wide, left)
 
 pub part_of-requires-in-loop-i-clause-order : goal.part_of-requires-in-loop-i-clause-order
 part_of-requires-in-loop-i-clause-order c =
-    let w = c.args.splits.now in
-    let i = c.loop-i.i in
-    let words = c.get-words.result.now in
-    let is = its_block w i c.loop-i-test.true c.args.blocks.now words c.requires c.get-words.ensures in
-    let low = left_low w.width (list w i c.loop-i-test.true) words (parts w i c.loop-i-test.true) (split w i c.loop-i-test.true) is (get_or words 0 0) refl in
-    let same : c.len-len.result ≡ length (list w i c.loop-i-test.true) = c.len-len.ensures ∙ list_len w.lists.now i c.index-splits-i.result c.loop-i-test.true in
-    omega (arith, low, same)
+    let left = low c.args.splits.now c.loop-i.i c.loop-i-test.true c.args.blocks.now c.get-words.result.now c.requires c.get-words.ensures in
+    let same : c.len-len.result ≡ length (list c.args.splits.now c.loop-i.i c.loop-i-test.true) = c.len-len.ensures ∙ list_len c.args.splits.now.lists.now c.loop-i.i c.index-splits-i.result c.loop-i-test.true in
+    omega (arith, left, same)
 
 pub part_of-requires-in-loop-i-clause-within : goal.part_of-requires-in-loop-i-clause-within
 part_of-requires-in-loop-i-clause-within c =
-    let w = c.args.splits.now in
-    let i = c.loop-i.i in
-    let words = c.get-words.result.now in
-    let is = its_block w i c.loop-i-test.true c.args.blocks.now words c.requires c.get-words.ensures in
-    let room = words_room w.width (list w i c.loop-i-test.true) words (parts w i c.loop-i-test.true) (split w i c.loop-i-test.true) is (get_or words 0 0) refl in
-    let same : c.len-len.result ≡ length (list w i c.loop-i-test.true) = c.len-len.ensures ∙ list_len w.lists.now i c.index-splits-i.result c.loop-i-test.true in
-    omega (arith, room, same)
+    let wide = room c.args.splits.now c.loop-i.i c.loop-i-test.true c.args.blocks.now c.get-words.result.now c.requires c.get-words.ensures in
+    let same : c.len-len.result ≡ length (list c.args.splits.now c.loop-i.i c.loop-i-test.true) = c.len-len.ensures ∙ list_len c.args.splits.now.lists.now c.loop-i.i c.index-splits-i.result c.loop-i-test.true in
+    omega (arith, wide, same)
 
 pub loop-i-preserved : goal.loop-i-preserved
 loop-i-preserved c =

@@ -3,7 +3,7 @@ use Rattle.ann_defs.specs.declared.near.Near.{Near}
 use Rattle.ann_defs.specs.Nearness.{ids_of}
 use Rattle.ann_defs.specs.Graph.{row_in}
 use Rattle.ann_defs.specs.RobustPrune.{pruned_row}
-use Rattle.nn_descent.specs.ListRound.{sources_of}
+use Rattle.neighbour_lists.specs.ListRound.{sources_of}
 use Rattle.nn_descent.proofs.SidesFacts.{pruned_gathered}
 use Rattle.nn_descent.proofs.pruned_graph.PrunedRowRowRule.write.Goals as goal
 

@@ -1,0 +1,17 @@
+pub mod NewRows
+pub mod AllRows
+pub mod Offers
+pub mod Reversing
+pub mod EdgeOrder
+pub mod NearestLists
+pub mod Neighbourhoods
+pub mod Joining
+pub mod Past
+pub mod KeptRows
+pub mod Freshness
+pub mod RoundRows
+pub mod EdgeFacts
+pub mod Belonging
+pub mod Counting
+pub mod LeafRows
+pub mod Activity

@@ -1,0 +1,10 @@
+pub mod ListRound
+pub mod Settled
+pub mod Edges
+pub mod Held
+pub mod Reversed
+pub mod Fresh
+pub mod Offering
+pub mod WrittenRows
+pub mod Rounds
+pub mod Changes

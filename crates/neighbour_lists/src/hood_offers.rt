@@ -1,0 +1,69 @@
+//! Neighbourhoods that are offered.
+ghost use Rattle.std.specs.Prelude.{◌≡◌, ◌<◌, length};
+ghost use Rattle.std.specs.List.{All, flat_map};
+ghost use Rattle.neighbour_lists.specs.Fresh.{parts, ArePoints};
+ghost use Rattle.neighbour_lists.specs.Offering.{IsOffered, HasOffered};
+
+use crate::nearest::Nearest;
+use bin_files::Points;
+use graph_rows::FlatGraph;
+
+/// Offers for the list of `v` both parts of the neighbourhood of each of the ids. The rows are read ahead. Takes no memory.
+pub(crate) fn offer_each(
+    points: &Points,
+    scratch: &mut Nearest,
+    v: u32,
+    ids: &[u32],
+    rows: &FlatGraph,
+    others: &FlatGraph,
+)
+    requires v { v < length points.now.vectors }
+    requires ids { All (λ u. u < length points.now.vectors) ids.now }
+    requires rows { ArePoints (length points.now.vectors) rows.now.rows }
+    requires others { ArePoints (length points.now.vectors) others.now.rows }
+    requires count { length scratch.old.marks ≡ length points.now.vectors }
+    requires offered { IsOffered points.now.vectors v scratch.old }
+    ensures { HasOffered points.now.vectors v (flat_map (parts rows.now.rows others.now.rows) ids.now) scratch.old scratch.new }
+{
+    scratch.note(ends_of(rows, ids) ^ ends_of(others, ids));
+    for u in ids {
+        offer_parts(points, scratch, v, *u, rows, others);
+    }
+}
+
+// Reads the length and the last id of each of some rows, which lie far apart in memory: these reads don't wait for each other, and the rows are
+// near when they are offered. Returns what they add up to.
+fn ends_of(rows: &FlatGraph, ids: &[u32]) -> u32
+    requires { All (λ u. u < length rows.now.rows) ids.now }
+{
+    let mut sum = 0u32;
+    for u in ids {
+        let row = rows.at(*u);
+        sum ^= row.len() as u32;
+        if !row.is_empty() {
+            sum ^= row[row.len() - 1];
+        }
+    }
+    sum
+}
+
+// Offers both parts of the neighbourhood of u.
+fn offer_parts(
+    points: &Points,
+    scratch: &mut Nearest,
+    v: u32,
+    u: u32,
+    rows: &FlatGraph,
+    others: &FlatGraph,
+)
+    requires v { v < length points.now.vectors }
+    requires u { u < length points.now.vectors }
+    requires rows { ArePoints (length points.now.vectors) rows.now.rows }
+    requires others { ArePoints (length points.now.vectors) others.now.rows }
+    requires count { length scratch.old.marks ≡ length points.now.vectors }
+    requires offered { IsOffered points.now.vectors v scratch.old }
+    ensures { HasOffered points.now.vectors v (parts rows.now.rows others.now.rows u) scratch.old scratch.new }
+{
+    scratch.offer(points, v, rows.at(u));
+    scratch.offer(points, v, others.at(u));
+}

@@ -1,8 +1,0 @@
-use Rattle.std.proofs.Common.{◌≡◌, ◌++◌, true, take}
-use Rattle.std.specs.List.{All}
-use Rattle.ann_defs.specs.Graph.{has}
-use Rattle.nn_descent.specs.Reversed.{edge_ids}
-use Rattle.nn_descent.proofs.around.has_row.Given as goal
-
-abbrev pub invariant-loop-id : goal.invariant-loop-id
-invariant-loop-id l = All (λ u. has (l.around.row.now ++ edge_ids l.around.edges.now) u ≡ true) (take l.id-index l.row)

@@ -1,9 +1,0 @@
-use Rattle.std.proofs.Common.{◌≡◌, ◌++◌, true, take}
-use Rattle.std.specs.List.{All}
-use Rattle.ann_defs.specs.Graph.{has}
-use Rattle.nn_descent.specs.declared.edge.Edge.{Edge}
-use Rattle.nn_descent.specs.Reversed.{edge_ids}
-use Rattle.nn_descent.proofs.around.has_sources.Given as goal
-
-abbrev pub invariant-loop-edge : goal.invariant-loop-edge
-invariant-loop-edge l = All (λ (e : Edge). has (l.around.row.now ++ edge_ids l.around.edges.now) e.source.id ≡ true) (take l.edge-index l.edges)

@@ -1,8 +1,0 @@
-use Rattle.std.proofs.Common.{take}
-use Rattle.std.specs.List.{flat_map}
-use Rattle.nn_descent.specs.Fresh.{parts}
-use Rattle.nn_descent.specs.Offering.{HasOffered}
-use Rattle.nn_descent.proofs.hood_offers.offer_all.Given as goal
-
-abbrev pub invariant-loop-u : goal.invariant-loop-u
-invariant-loop-u l = HasOffered l.points.vectors l.v (flat_map (parts l.rows.rows l.others.rows) (take l.u-index l.ids)) l.fn.scratch l.scratch

@@ -1,5 +1,0 @@
-use Rattle.nn_descent.proofs.Neighbourhoods.{settled_stays}
-use Rattle.nn_descent.proofs.laws.settled_points_stay.Goals as goal
-
-pub returns : goal.returns
-returns c = λ points list rows v below still. settled_stays points list rows v below still

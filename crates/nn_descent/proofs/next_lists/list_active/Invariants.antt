@@ -1,7 +1,0 @@
-use Rattle.std.proofs.Common.{◌≡◌}
-use Rattle.std.specs.List.{filter, range_with_len}
-use Rattle.nn_descent.specs.Held.{is_active}
-use Rattle.nn_descent.proofs.next_lists.list_active.Given as goal
-
-abbrev pub invariant-loop-v : goal.invariant-loop-v
-invariant-loop-v l = l.ids.items ≡ filter (is_active l.lists) (range_with_len 0 l.v)
