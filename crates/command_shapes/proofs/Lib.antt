@@ -6,3 +6,4 @@ pub mod Completing
 pub mod WrittenFacts
 pub mod Pieces
 pub mod LineLists
+pub mod WaitingFacts

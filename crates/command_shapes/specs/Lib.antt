@@ -5,3 +5,4 @@ pub mod Clauses
 pub mod Ends
 pub mod Writing
 pub mod AnswerLines
+pub mod Waiting

@@ -1,11 +1,12 @@
 //! Answering queries in rounds, and printing a line for each.
-ghost use Rattle.std.specs.Prelude.{◌≡◌, ◌+◌, ◌*◌, ◌<◌, ◌≤◌, length, vec_capacity, IfOk};
+ghost use Rattle.std.specs.Prelude.{◌≡◌, ◌+◌, ◌*◌, ◌^◌, ◌<◌, ◌≤◌, length, vec_capacity, IfOk};
 ghost use Rattle.steal_pool.specs.Work.{AllServe};
 ghost use Rattle.batch_search.specs.Answers.{round_of, round_size};
 ghost use Rattle.command_shapes.specs.Ends.{fault_in};
 ghost use Rattle.command_shapes.specs.Writing.{Printed};
 ghost use Rattle.command_shapes.specs.AnswerLines.{lines_from};
 
+use crate::buffer::PIECE;
 use crate::lines::print_answers;
 use ann_defs::Near;
 use ann_shelf::{Gate, NoMemory, Out};
@@ -24,7 +25,7 @@ fn print_next<R: Threads + Sync, P: Rounds, A: Answering, O: Out, G: Gate + Sync
     pool: &mut P,
     posts: &mut [Post<A::Scratch>],
     nears: &mut [Near],
-    line: &mut Vec<u8>,
+    buffer: &mut Vec<u8>,
     out: &mut O,
     gate: &G,
 ) -> Result<u32, Fault>
@@ -32,19 +33,20 @@ fn print_next<R: Threads + Sync, P: Rounds, A: Answering, O: Out, G: Gate + Sync
     requires posts { length posts.old ≡ P.count pool.old }
     requires serve { AllServe (A.serves batch.now) posts.old }
     requires nears { length nears.old ≡ A.longest batch.now }
-    requires line { 22 * length nears.old + 11 ≤ vec_capacity line.old }
+    requires few { length nears.old ≤ 2 ^ 32 }
+    requires room { 22 * length nears.old + 11 ≤ vec_capacity buffer.old }
     ensures next { IfOk result (λ next. next ≡ from + round_size (length (A.answers batch.now)) from) }
     ensures printed { Printed (lines_from from (round_of (A.answers batch.now) from)) (O.got out.old) (O.got out.new) (fault_in result) }
     ensures serve { AllServe (A.serves batch.now) posts.new }
     ensures workers { P.count pool.new ≡ P.count pool.old }
-    ensures capacity { vec_capacity line.new ≡ vec_capacity line.old }
+    ensures capacity { vec_capacity buffer.new ≡ vec_capacity buffer.old }
 {
     let left = batch.count() - from;
     let answers = match answer_round(rt, alloc, pool, batch, from, posts, gate) {
         Ok(answers) => answers,
         Err(NoMemory) => return Err(Fault::NoMemory),
     };
-    print_answers(&answers, from, nears, line, out)?;
+    print_answers(&answers, from, nears, buffer, out)?;
     Ok(from + MAX_TASKS.min(left))
 }
 
@@ -56,38 +58,43 @@ fn print_rounds<R: Threads + Sync, P: Rounds, A: Answering, O: Out, G: Gate + Sy
     pool: &mut P,
     posts: &mut [Post<A::Scratch>],
     nears: &mut [Near],
-    line: &mut Vec<u8>,
+    buffer: &mut Vec<u8>,
     out: &mut O,
     gate: &G,
 ) -> Result<(), Fault>
     requires posts { length posts.old ≡ P.count pool.old }
     requires serve { AllServe (A.serves batch.now) posts.old }
     requires nears { length nears.old ≡ A.longest batch.now }
-    requires line { 22 * length nears.old + 11 ≤ vec_capacity line.old }
+    requires few { length nears.old ≤ 2 ^ 32 }
+    requires room { 22 * length nears.old + 11 ≤ vec_capacity buffer.old }
     ensures { Printed (lines_from 0 (A.answers batch.now)) (O.got out.old) (O.got out.new) (fault_in result) }
 {
     let count = batch.count();
     let mut from = 0;
     while from < count {
-        from = print_next(rt, alloc, batch, from, pool, posts, nears, line, out, gate)?;
+        from = print_next(
+            rt, alloc, batch, from, pool, posts, nears, buffer, out, gate,
+        )?;
     }
     Ok(())
 }
 
-/// Room for one answer, and for its line.
+/// Room for one answer, and for a piece of lines, or for the answer's line where that is longer.
 fn rooms_for<A: Answering>(alloc: Global, batch: &A) -> Result<(Vec<Near>, Vec<u8>), NoMemory>
     ensures nears { IfOk result (λ r. length r.0.items ≡ A.longest batch.now) }
-    ensures line { IfOk result (λ r. 22 * A.longest batch.now + 11 ≤ vec_capacity r.1) }
+    ensures few { A.longest batch.now ≤ 2 ^ 32 }
+    ensures room { IfOk result (λ r. 22 * A.longest batch.now + 11 ≤ vec_capacity r.1) }
 {
     let longest = batch.longest() as usize;
     let nears = vec![in alloc; Near { dist: 0, id: 0 }; longest]?;
-    let line = Vec::with_capacity(alloc, query_line_bytes(longest))?;
-    Ok((nears, line))
+    let buffer = Vec::with_capacity(alloc, PIECE.max(query_line_bytes(longest)))?;
+    Ok((nears, buffer))
 }
 
-/// Answers all queries on a pool, in rounds of at most 4,096, and prints a line for each as its round ends.
+/// Answers all queries on a pool, in rounds of at most 4,096, and prints a line for each as its round ends, in pieces of up
+/// to `PIECE` bytes.
 ///
-/// Besides what `answer_round` takes, it takes memory for one answer and its line.
+/// Besides what `answer_round` takes, it takes memory for one answer and a piece, or the answer's line where that is longer.
 pub fn answer_and_print<R: Threads + Sync, P: Rounds, A: Answering, O: Out, G: Gate + Sync>(
     rt: &R,
     alloc: Global,
@@ -101,7 +108,7 @@ pub fn answer_and_print<R: Threads + Sync, P: Rounds, A: Answering, O: Out, G: G
     requires serve { AllServe (A.serves batch.now) posts.old }
     ensures { Printed (lines_from 0 (A.answers batch.now)) (O.got out.old) (O.got out.new) (fault_in result) }
 {
-    let (mut nears, mut line) = match rooms_for(alloc, batch) {
+    let (mut nears, mut buffer) = match rooms_for(alloc, batch) {
         Ok(rooms) => rooms,
         Err(NoMemory) => return Err(Fault::NoMemory),
     };
@@ -112,7 +119,7 @@ pub fn answer_and_print<R: Threads + Sync, P: Rounds, A: Answering, O: Out, G: G
         pool,
         posts,
         nears.as_mut_slice(),
-        &mut line,
+        &mut buffer,
         out,
         gate,
     )

@@ -25,8 +25,8 @@ print_next-requires-clause-posts g c κs within = c.loop-from.invariant.posts
 pub print_next-requires-clause-serve : goal.print_next-requires-clause-serve
 print_next-requires-clause-serve g c κs within = c.loop-from.invariant.serve
 
-pub print_next-requires-clause-line : goal.print_next-requires-clause-line
-print_next-requires-clause-line g c κs within = omega (arith, c.requires.line, c.loop-from.auto.nears, c.loop-from.invariant.capacity)
+pub print_next-requires-clause-room : goal.print_next-requires-clause-room
+print_next-requires-clause-room g c κs within = omega (arith, c.requires.room, c.loop-from.auto.nears, c.loop-from.invariant.capacity)
 
 pub returns-in_err-from : goal.returns-in_err-from
 returns-in_err-from g c =

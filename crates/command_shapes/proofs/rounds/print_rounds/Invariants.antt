@@ -11,7 +11,7 @@ invariant-loop-from g l = record {
   printed : Printed (lines_from 0 (take l.from (g.A.Answering.answers l.initial.batch))) (g.O.Out.got l.initial.out) (g.O.Out.got l.out) None;
   posts : length l.posts ≡ g.P.Rounds.count l.pool;
   serve : AllServe (g.A.Answering.serves l.initial.batch) l.posts;
-  capacity : vec_capacity l.line ≡ vec_capacity l.initial.line;
+  capacity : vec_capacity l.buffer ≡ vec_capacity l.initial.buffer;
 }
 
 abbrev pub decreases-loop-from : goal.decreases-loop-from
