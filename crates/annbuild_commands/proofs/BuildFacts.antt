@@ -8,8 +8,9 @@ use Rattle.command_options.specs.declared.settings.Settings.{Settings}
 use Rattle.command_options.specs.declared.role.Role.TheVariants.{Index}
 use Rattle.command_shapes.specs.Writing.{stored_as}
 use Rattle.command_shapes.proofs.Ending.{Leads}
-use Rattle.annbuild_commands.specs.IndexOf.{index_of, file_of, line_of, words_of}
-use Rattle.annbuild_commands.specs.Limits.{words_refusal}
+use Rattle.index_build.specs.IndexOf.{index_of, words_of}
+use Rattle.annbuild_commands.specs.IndexTexts.{file_of, line_of}
+use Rattle.index_build.specs.Limits.{words_refusal}
 use Rattle.annbuild_commands.specs.Building.{building, IsIndexOf}
 
 pub build_leads : (files : Files) (base index : List ℕ) (o : Settings) (i : Contents) (text line : List ℕ) → IsIndexOf (bytes_of files base) o i → text ≡ file_of i → line ≡ line_of i

@@ -8,10 +8,6 @@ use Rattle.graph_rows.specs.View.{kind_code}
 use Rattle.vamana_build.specs.declared.settings.VamanaSettings.{VamanaSettings}
 use Rattle.vamana_build.specs.Builds.{order_of}
 use Rattle.vamana_build.specs.VamanaIndex.{vamana_index}
-use Rattle.hnsw_build.specs.HnswIndex.{hnsw_index}
-use Rattle.hnsw_build.specs.declared.settings.HnswSettings.{HnswSettings}
-use Rattle.nn_descent.specs.NndIndex.{nnd_index}
-use Rattle.nn_descent.specs.declared.settings.NndSettings.{NndSettings}
 use Rattle.annbuild_lines.specs.Lines.{built_text, checked_text}
 use Rattle.annbuild_lines.specs.declared.fault.Fault.{Fault}
 use Rattle.annbuild_lines.specs.declared.fault.Fault.TheVariants.{TooLarge}
@@ -21,8 +17,9 @@ use Rattle.command_options.specs.declared.verb.Verb.{Verb}
 use Rattle.command_options.specs.Settings.{IsInRange}
 use Rattle.command_options.specs.Shapes.{shape_kind}
 use Rattle.command_options.specs.Forms.{greatest_degree}
-use Rattle.annbuild_commands.specs.IndexOf.{AreForBuild, vamana_of, vamana_rows, vamana_batches, hnsw_of, nnd_of, hnsw_settings, levels_for, index_by, index_of, file_of, line_of, told_of, kind_at}
-use Rattle.annbuild_commands.specs.Limits.{limit_refusal}
+use Rattle.index_build.specs.IndexOf.{AreForBuild, vamana_of, vamana_rows, vamana_batches, hnsw_of, nnd_of, hnsw_settings, levels_for, index_by, index_of}
+use Rattle.annbuild_commands.specs.IndexTexts.{file_of, line_of, told_of, kind_at}
+use Rattle.index_build.specs.Limits.{limit_refusal}
 use Rattle.annbuild_commands.specs.Checking.{checked_of}
 
 pub file_is : (i : Contents) → text_of i ≡ file_of i
@@ -79,32 +76,6 @@ for_build v o same r = record {
   leaf = r.leaf;
   rounds = r.rounds;
 }
-
--- the builder's index is the one that a build must give
-pub same_index : (X : List (List ℕ)) (s : VamanaSettings) (o : Settings) → s.order ≡ o.order → s.start ≡ o.start → s.seed ≡ o.seed → s.degree ≡ o.degree → s.beam ≡ o.beam
-    → s.alpha.num ≡ o.num → s.alpha.den ≡ o.den → s.cap ≡ o.cap → vamana_index X s ≡ vamana_of X o
-unfolding order_of vamana_of vamana_rows vamana_batches
-same_index X s o a b c d e f g h = λ i. vamana_of X (record o { order = a i; start = b i; seed = c i; degree = d i; beam = e i; num = f i; den = g i; cap = h i })
-
--- the same of the builder of lists
-pub same_lists : (X : List (List ℕ)) (s : NndSettings) (o : Settings) → s.start ≡ o.start → s.seed ≡ o.seed → s.degree ≡ o.degree → s.alpha.num ≡ o.num → s.alpha.den ≡ o.den
-    → s.list ≡ o.list → s.trees ≡ o.trees → s.leaf ≡ o.leaf → s.rounds ≡ o.rounds → s.floor ≡ o.floor → nnd_index X s ≡ nnd_of X o
-unfolding nnd_of
-same_lists X s o a b c d e f g h i j = λ k. nnd_of X (record o { start = a k; seed = b k; degree = c k; num = d k; den = e k; list = f k; trees = g k; leaf = h k; rounds = i k; floor = j k })
-
--- the index that settings of a kind ask for, and its words
-pub index_is : (X : List (List ℕ)) (o : Settings) (k : Kind) → o.kind ≡ k → index_by k X o ≡ index_of X o
-unfolding index_of
-index_is X o k e = ap (λ (j : Kind). index_by j X o) (sym e)
-
--- the layers of equal points, settings and levels
-pub same_layers : (X Y : List (List ℕ)) (s t : HnswSettings) (l m : List ℕ) → X ≡ Y → s ≡ t → l ≡ m → hnsw_index X s l ≡ hnsw_index Y t m
-same_layers X Y s t l m e f g = λ i. hnsw_index (e i) (f i) (g i)
-
--- the layered builder's index is the one that a build must give
-pub layered_is : (X : List (List ℕ)) (o : Settings) → hnsw_index X (hnsw_settings o) (levels_for (length X) o) ≡ hnsw_of X o
-unfolding hnsw_of
-layered_is X o = refl
 
 -- an index that fits
 pub both_ok : {T : Type 0} (r : Result T Fault) (P : Type 0) (Q R : T → Type 0) → ((x : T) → P → Q x → R x) → OnOk r P → IfOk r Q → IfOk r R

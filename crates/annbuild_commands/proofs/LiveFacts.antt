@@ -44,11 +44,13 @@ use Rattle.command_shapes.proofs.Ending.{Leads, IsOfFiles, refusal_is}
 use Rattle.command_shapes.proofs.Refusals.{points_text}
 use Rattle.command_shapes.proofs.Told.{both_pair}
 use Rattle.annbuild_commands.specs.Fitting.{queries_unfit}
-use Rattle.annbuild_commands.specs.IndexOf.{index_of, file_of, line_of, words_by, words_of, vamana_words, vamana_of, vamana_rows, vamana_batches, vamana_start}
-use Rattle.annbuild_commands.specs.Limits.{words_refusal, answers_refusal, limit_refusal}
+use Rattle.index_build.specs.IndexOf.{index_of, words_by, words_of, vamana_words, vamana_of, vamana_rows, vamana_batches, vamana_start}
+use Rattle.annbuild_commands.specs.IndexTexts.{file_of, line_of}
+use Rattle.index_build.specs.Limits.{words_refusal, answers_refusal, limit_refusal}
 use Rattle.annbuild_commands.specs.Living.{living, live_refusal, answer_after, answers_beside, answers_last, batch_line, live_pieces, may_run, IsSession, AreTold, AreAsked}
 use Rattle.annbuild_commands.proofs.Fits.{either_fault, queries_only}
-use Rattle.annbuild_commands.proofs.IndexFacts.{file_is, limit_fault, index_is, same_index}
+use Rattle.index_build.proofs.IndexFacts.{index_is, same_index}
+use Rattle.annbuild_commands.proofs.IndexFacts.{file_is, limit_fault}
 
 -- what of the settings decides the graphs
 module _ (X : List (List ℕ)) (s : VamanaSettings) (o : Settings) (a : s.order ≡ o.order) (b : s.start ≡ o.start) (c : s.seed ≡ o.seed) (d : s.degree ≡ o.degree)

@@ -18,7 +18,7 @@ use Rattle.annbuild_lines.specs.declared.fault.Fault.TheVariants.{NoMemory}
 use Rattle.command_shapes.specs.Ends.{Ends}
 use Rattle.command_shapes.specs.Writing.{stored_as}
 use Rattle.command_shapes.proofs.Ending.{Leads}
-use Rattle.annbuild_commands.specs.Limits.{cells_refusal}
+use Rattle.index_build.specs.Limits.{cells_refusal}
 use Rattle.annbuild_commands.specs.Making.{vectors_made, points_made, making}
 use Rattle.annbuild_commands.proofs.IndexFacts.{limit_fault}
 use Rattle.annbuild_commands.proofs.Unread.{fails_unread}

@@ -24,8 +24,9 @@ use Rattle.annbuild_lines.specs.declared.fault.Fault.{Fault}
 use Rattle.annbuild_lines.specs.declared.fault.Fault.TheVariants.{NoMemory}
 use Rattle.command_shapes.specs.Ends.{Ends}
 use Rattle.command_shapes.proofs.Ending.{Leads}
-use Rattle.annbuild_commands.specs.IndexOf.{vamana_of, hnsw_of, nnd_of, index_by, index_of, words_of, line_of}
-use Rattle.annbuild_commands.specs.Limits.{cells_refusal, words_refusal}
+use Rattle.index_build.specs.IndexOf.{vamana_of, hnsw_of, nnd_of, index_by, index_of, words_of}
+use Rattle.annbuild_commands.specs.IndexTexts.{line_of}
+use Rattle.index_build.specs.Limits.{cells_refusal, words_refusal}
 use Rattle.annbuild_commands.specs.Making.{vectors_made, points_made}
 use Rattle.annbuild_commands.specs.Trying.{trial_refusal, index_tried, queries_made, answers_tried, answer_count, dist_total, summary_of, trying}
 use Rattle.annbuild_commands.proofs.Fits.{either_fault}

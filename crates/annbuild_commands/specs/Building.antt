@@ -7,8 +7,9 @@ use Rattle.command_options.specs.declared.role.Role.TheVariants.{Base, Index}
 use Rattle.command_shapes.specs.Doing.{Stored, Doing}
 use Rattle.command_shapes.specs.Faults.{points_refusal}
 use Rattle.command_shapes.specs.Reading.{points_read, points_in, IsPointsText}
-use Rattle.annbuild_commands.specs.IndexOf.{index_of, file_of, line_of, words_of}
-use Rattle.annbuild_commands.specs.Limits.{words_refusal}
+use Rattle.index_build.specs.IndexOf.{index_of, words_of}
+use Rattle.annbuild_commands.specs.IndexTexts.{file_of, line_of}
+use Rattle.index_build.specs.Limits.{words_refusal}
 
 -- the bytes of the index of what a file of points holds
 abbrev pub index_text : List ℕ → Settings → List ℕ

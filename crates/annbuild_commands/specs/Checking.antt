@@ -9,7 +9,7 @@ use Rattle.annbuild_lines.specs.Lines.{checked_text}
 use Rattle.command_shapes.specs.Doing.{Doing}
 use Rattle.command_shapes.specs.Reading.{points_read, index_read, IsPointsText}
 use Rattle.annbuild_commands.specs.Fitting.{index_unfit_files}
-use Rattle.annbuild_commands.specs.IndexOf.{told_of}
+use Rattle.annbuild_commands.specs.IndexTexts.{told_of}
 
 -- the line of an index that was checked
 unfoldable pub checked_of : Contents → List ℕ

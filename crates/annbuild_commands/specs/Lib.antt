@@ -1,5 +1,4 @@
-pub mod IndexOf
-pub mod Limits
+pub mod IndexTexts
 pub mod Fitting
 pub mod Building
 pub mod Querying

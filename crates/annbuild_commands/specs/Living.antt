@@ -25,8 +25,9 @@ use Rattle.command_shapes.specs.Reading.{points_read, points_in, IsPointsText}
 use Rattle.command_shapes.specs.Writing.{writing_runs, stored_as}
 use Rattle.annbuild_commands.specs.Building.{index_stored}
 use Rattle.annbuild_commands.specs.Fitting.{queries_unfit}
-use Rattle.annbuild_commands.specs.IndexOf.{index_of, file_of, line_of, words_of, vamana_batches, vamana_rows, vamana_start}
-use Rattle.annbuild_commands.specs.Limits.{words_refusal, answers_refusal}
+use Rattle.index_build.specs.IndexOf.{index_of, words_of, vamana_batches, vamana_rows, vamana_start}
+use Rattle.annbuild_commands.specs.IndexTexts.{file_of, line_of}
+use Rattle.index_build.specs.Limits.{words_refusal, answers_refusal}
 
 -- the first refusal of points and queries: they don't fit together, too many words of the index, too many answers
 unfoldable pub live_refusal : (X Q : List (List ℕ)) → Settings → Option Fault

@@ -8,7 +8,7 @@ use Rattle.command_options.specs.declared.settings.Settings.{Settings}
 use Rattle.command_options.specs.declared.role.Role.TheVariants.{Base}
 use Rattle.annbuild_lines.specs.Lines.{made_text}
 use Rattle.command_shapes.specs.Doing.{Stored, Doing}
-use Rattle.annbuild_commands.specs.Limits.{cells_refusal}
+use Rattle.index_build.specs.Limits.{cells_refusal}
 
 -- the points that settings ask for: the generator's bytes from the first on
 unfoldable pub vectors_made : Settings → List (List ℕ)

@@ -10,8 +10,9 @@ use Rattle.command_options.specs.declared.settings.Settings.{Settings}
 use Rattle.annbuild_lines.specs.Lines.{answered_text}
 use Rattle.annbuild_lines.specs.declared.fault.Fault.{Fault}
 use Rattle.command_shapes.specs.Doing.{Doing}
-use Rattle.annbuild_commands.specs.IndexOf.{index_of, words_of, line_of}
-use Rattle.annbuild_commands.specs.Limits.{cells_refusal, words_refusal}
+use Rattle.index_build.specs.IndexOf.{index_of, words_of}
+use Rattle.annbuild_commands.specs.IndexTexts.{line_of}
+use Rattle.index_build.specs.Limits.{cells_refusal, words_refusal}
 use Rattle.annbuild_commands.specs.Making.{vectors_made}
 
 -- the first limit that is passed: of the points' numbers, then of the index's words

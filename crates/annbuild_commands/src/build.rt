@@ -11,13 +11,13 @@ ghost use Rattle.command_shapes.specs.Ends.{Ends, HaveRead, fault_in};
 ghost use Rattle.command_shapes.specs.Reading.{points_read};
 ghost use Rattle.annbuild_commands.specs.Building.{building, IsIndexOf};
 
-use crate::index_for::index_for;
 use crate::index_told::line_of_built;
 use ann_shelf::{Gate, Out, Shelf};
 use annbuild_lines::Fault;
 use annbuild_words::{Request, Role};
 use command_shapes::{read_points_of, store_and_print};
 use graph_rows::Index;
+use index_build::index_for;
 use std::alloc::Global;
 use std::thread::Threads;
 

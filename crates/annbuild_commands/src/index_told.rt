@@ -2,7 +2,7 @@
 ghost use Rattle.std.specs.Prelude.{◌≡◌};
 ghost use Rattle.graph_rows.specs.View.{contents};
 ghost use Rattle.graph_rows.specs.WellFormed.{IsWellFormed};
-ghost use Rattle.annbuild_commands.specs.IndexOf.{told_of, line_of};
+ghost use Rattle.annbuild_commands.specs.IndexTexts.{told_of, line_of};
 ghost use Rattle.annbuild_commands.specs.Checking.{checked_of};
 
 use annbuild_lines::{BuiltLine, Line, built_line, checked_line};

@@ -7,18 +7,17 @@ ghost use Rattle.command_options.specs.Settings.{IsInRange};
 ghost use Rattle.command_options.specs.declared.verb.Verb.TheVariants as verbs;
 ghost use Rattle.annbuild_lines.specs.declared.fault.Fault.TheVariants.{NoMemory as NoMemoryFault};
 ghost use Rattle.command_shapes.specs.Ends.{Ends, fault_in};
-ghost use Rattle.annbuild_commands.specs.IndexOf.{vamana_words};
+ghost use Rattle.index_build.specs.IndexOf.{vamana_words};
 ghost use Rattle.annbuild_commands.specs.Living.{living, telling, AreAsked, IsSession};
 
 use crate::batch_lines::print_session;
 use crate::index_told::line_of_built;
-use crate::limits::pool_for;
 use crate::live_inputs::{LiveInputs, read_live};
-use crate::vamana::settings_of;
 use ann_shelf::{Gate, NoMemory, Out, Shelf};
 use annbuild_lines::{Fault, batch_line_bytes};
 use annbuild_words::{Request, Role, Settings};
-use command_shapes::store;
+use command_shapes::{PIECE, store};
+use index_build::{pool_for, settings_for_vamana};
 use live_session::{Asking, Session, build_beside_callers};
 use std::alloc::Global;
 use std::sync::Wait;
@@ -42,7 +41,7 @@ fn session_on<R: Threads + Wait + Sync, P: Rounds, G: Gate + Sync>(
     requires workers { (1 ≤ P.count pool.old) × (P.count pool.old ≤ 64) }
     ensures { IfOk result (IsSession inputs.now.points.vectors inputs.now.queries.vectors options.now) }
 {
-    let plan = Plan::make(alloc, &inputs.points, settings_of(options))?;
+    let plan = Plan::make(alloc, &inputs.points, settings_for_vamana(options))?;
     let asking = Asking {
         queries: &inputs.queries,
         beam: options.search,
@@ -52,14 +51,15 @@ fn session_on<R: Threads + Wait + Sync, P: Rounds, G: Gate + Sync>(
     build_beside_callers(rt, alloc, &plan, asking, pool, gate)
 }
 
-/// A session, and room for the line of each of its answers.
+/// A session, and room for the lines of its answers.
 #[derive(Drop)]
 struct Heard {
     session: Session,
-    line: Vec<u8>,
+    buffer: Vec<u8>,
 }
 
-/// Takes room for a line, and builds the index on the pool that settings ask for while callers ask.
+/// Takes room for a piece of lines, or for a line where that is longer, and builds the index on the pool that settings ask
+/// for while callers ask.
 fn make_session<R: Threads + Wait + Sync, G: Gate + Sync>(
     rt: &R,
     alloc: Global,
@@ -74,12 +74,13 @@ fn make_session<R: Threads + Wait + Sync, G: Gate + Sync>(
     requires asked { ArePoints inputs.now.queries.vectors }
     ensures session { IfOk result (λ h. IsSession inputs.now.points.vectors inputs.now.queries.vectors options.now h.session) }
     ensures asked { IfOk result (λ h. AreAsked options.now h.session) }
-    ensures line { IfOk result (λ h. 22 * options.now.k + 27 ≤ vec_capacity h.line) }
+    ensures room { IfOk result (λ h. 22 * options.now.k + 27 ≤ vec_capacity h.buffer) }
 {
-    let line = Vec::with_capacity(alloc, batch_line_bytes(options.k as usize))?;
+    let longest = batch_line_bytes(options.k as usize);
+    let buffer = Vec::with_capacity(alloc, PIECE.max(longest))?;
     let mut pool = pool_for(options, inputs.points.count());
     let session = session_on(rt, alloc, inputs, options, &mut pool, gate)?;
-    Ok(Heard { session, line })
+    Ok(Heard { session, buffer })
 }
 
 /// The same, with the fault of the program.
@@ -97,7 +98,7 @@ fn session_for<R: Threads + Wait + Sync, G: Gate + Sync>(
     requires asked { ArePoints inputs.now.queries.vectors }
     ensures session { IfOk result (λ h. IsSession inputs.now.points.vectors inputs.now.queries.vectors options.now h.session) }
     ensures asked { IfOk result (λ h. AreAsked options.now h.session) }
-    ensures line { IfOk result (λ h. 22 * options.now.k + 27 ≤ vec_capacity h.line) }
+    ensures room { IfOk result (λ h. 22 * options.now.k + 27 ≤ vec_capacity h.buffer) }
     ensures failed { IfErr result (λ fault. fault ≡ NoMemoryFault) }
 {
     match make_session(rt, alloc, inputs, options, gate) {
@@ -124,10 +125,13 @@ fn told_live<R: Threads + Wait + Sync, F: Shelf, O: Out, G: Gate + Sync>(
     requires asked { ArePoints inputs.now.queries.vectors }
     ensures { Ends (telling inputs.now.points.vectors inputs.now.queries.vectors name.now options.now) (F.shown shelf.old) (F.shown shelf.new) (O.got out.old) (O.got out.new) (fault_in result) }
 {
-    let Heard { session, mut line } = session_for(rt, alloc, inputs, options, gate)?;
+    let Heard {
+        session,
+        mut buffer,
+    } = session_for(rt, alloc, inputs, options, gate)?;
     let told = line_of_built(&session.index);
     store(shelf, Role::Index, name, &session.index)?;
-    print_session(&session, told.as_slice(), &mut line, out)
+    print_session(&session, told.as_slice(), &mut buffer, out)
 }
 
 /// Builds the index of a file of points while callers ask it, stores it, and tells of it and of their answers.

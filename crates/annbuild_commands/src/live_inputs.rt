@@ -11,18 +11,17 @@ ghost use Rattle.command_options.specs.declared.role.Role.TheVariants as roles;
 ghost use Rattle.command_options.specs.declared.verb.Verb.TheVariants as verbs;
 ghost use Rattle.command_shapes.specs.Ends.{Ends, HaveRead};
 ghost use Rattle.command_shapes.specs.Reading.{AreOf};
-ghost use Rattle.annbuild_commands.specs.IndexOf.{vamana_words};
-ghost use Rattle.annbuild_commands.specs.Limits.{words_refusal, answers_refusal};
+ghost use Rattle.index_build.specs.IndexOf.{vamana_words};
+ghost use Rattle.index_build.specs.Limits.{words_refusal, answers_refusal};
 ghost use Rattle.annbuild_commands.specs.Living.{living, live_refusal};
 
 use crate::inputs::unfit_queries;
-use crate::limits::{check_answers, check_words};
-use crate::vamana::words_for;
 use ann_shelf::Shelf;
 use annbuild_lines::Fault;
 use annbuild_words::{Request, Role, Settings};
 use bin_files::Points;
 use command_shapes::read_points_of;
+use index_build::{check_answers, check_words, words_for_vamana};
 use std::alloc::Global;
 
 /// The points and the queries.
@@ -56,7 +55,7 @@ fn check_sizes(points: &Points, queries: &Points, options: &Settings) -> Result<
     ensures ok { OnOk result (option_or (words_refusal (vamana_words (length points.now.vectors) options.now)) (answers_refusal (length queries.now.vectors) options.now.k) ≡ None) }
     ensures err { IfErr result (λ fault. option_or (words_refusal (vamana_words (length points.now.vectors) options.now)) (answers_refusal (length queries.now.vectors) options.now.k) ≡ Some fault) }
 {
-    check_words(words_for(points, options))?;
+    check_words(words_for_vamana(points, options))?;
     check_answers(queries.count(), options.k)?;
     Ok(())
 }

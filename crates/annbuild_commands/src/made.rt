@@ -2,15 +2,15 @@
 ghost use Rattle.std.specs.Prelude.{◌≡◌, ◌⊎◌, ◌*◌, ◌≤◌, Some, None, IfOk, IfErr, OnOk};
 ghost use Rattle.ann_defs.specs.declared.limits.TheConstants.{MAX_CELLS, MAX_DIM, MAX_POINTS};
 ghost use Rattle.annbuild_lines.specs.declared.fault.Fault.TheVariants.{NoMemory as NoMemoryFault};
-ghost use Rattle.annbuild_commands.specs.Limits.{cells_refusal};
+ghost use Rattle.index_build.specs.Limits.{cells_refusal};
 ghost use Rattle.annbuild_commands.specs.Making.{points_made};
 ghost use Rattle.annbuild_commands.specs.Trying.{queries_made};
 
-use crate::limits::check_cells;
 use ann_shelf::NoMemory;
 use annbuild_lines::Fault;
 use annbuild_words::Settings;
 use bin_files::Points;
+use index_build::check_cells;
 use seeded_order::made_points;
 use std::alloc::Global;
 

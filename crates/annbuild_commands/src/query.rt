@@ -12,12 +12,12 @@ ghost use Rattle.annbuild_commands.specs.Fitting.{unfit_in};
 ghost use Rattle.annbuild_commands.specs.Querying.{querying, all_answers};
 
 use crate::inputs::{Inputs, read_inputs};
-use crate::limits::pool_for;
 use ann_shelf::{Gate, NoMemory, Out, Shelf};
 use annbuild_lines::Fault;
 use annbuild_words::{Request, Settings};
 use batch_search::{QueryBatch, posts_for};
 use command_shapes::answer_and_print;
+use index_build::pool_for;
 use std::alloc::Global;
 use std::thread::Threads;
 use steal_pool::Rounds;

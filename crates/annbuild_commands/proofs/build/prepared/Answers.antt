@@ -16,8 +16,8 @@ use Rattle.command_shapes.proofs.Told.{on_fault}
 use Rattle.command_shapes.proofs.ReadFacts.{none_read}
 use Rattle.command_shapes.proofs.Ending.{fails_at, fails_rest, fails_memory}
 use Rattle.annbuild_commands.specs.Building.{building, IsIndexOf}
-use Rattle.annbuild_commands.specs.Limits.{words_refusal}
-use Rattle.annbuild_commands.specs.IndexOf.{index_of, words_of}
+use Rattle.index_build.specs.Limits.{words_refusal}
+use Rattle.index_build.specs.IndexOf.{index_of, words_of}
 use Rattle.command_options.specs.declared.verb.Verb.TheVariants as verbs
 use Rattle.annbuild_commands.proofs.IndexFacts.{limit_fault, both_ok, for_build}
 use Rattle.command_shapes.proofs.Refusals.{points_text}

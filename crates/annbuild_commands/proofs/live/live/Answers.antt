@@ -4,7 +4,8 @@ use Rattle.command_shapes.specs.Ends.{Ends, fault_in}
 use Rattle.command_shapes.specs.Writing.{stored_as}
 use Rattle.command_shapes.proofs.Told.{fault_passed}
 use Rattle.command_shapes.proofs.Ending.{after_reading}
-use Rattle.annbuild_commands.specs.IndexOf.{index_of, file_of}
+use Rattle.index_build.specs.IndexOf.{index_of}
+use Rattle.annbuild_commands.specs.IndexTexts.{file_of}
 use Rattle.annbuild_commands.specs.Living.{living, may_run, live_pieces}
 use Rattle.annbuild_commands.proofs.LiveFacts.{live_leads}
 use Rattle.annbuild_commands.proofs.live.live.Goals as goal

@@ -13,8 +13,8 @@ returns g c =
     let p = c.in_ok-plan.plan in
     let Y = p.points.now.vectors in
     let s = p.settings in
-    let same : s ≡ c.settings_of.result = c.in_ok-plan.ensures.settings in
-    let of = c.settings_of.ensures in
+    let same : s ≡ c.settings_for_vamana.result = c.in_ok-plan.ensures.settings in
+    let of = c.settings_for_vamana.ensures in
     all_ok c.build_beside_callers.result _ _ _ _ _ (IsSession X Q o) (λ x index well lawful live last.
     subst (λ Z. IsSession Z Q o x) (ap (λ (P : PointSet). P.vectors) c.in_ok-plan.ensures.points)
     (session_is Y s o (ap (λ (z : VamanaSettings). z.order) same ∙ of.order) (ap (λ (z : VamanaSettings). z.start) same ∙ of.start) (ap (λ (z : VamanaSettings). z.seed) same ∙ of.seed)

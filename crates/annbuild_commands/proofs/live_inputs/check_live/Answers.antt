@@ -1,8 +1,8 @@
 use Rattle.std.proofs.Common.{◌≡◌, ◌∙◌, ap, length, refl, sym, Some, None}
 use Rattle.std.specs.Option.{option_or}
 use Rattle.std.proofs.lemmas.Result.{IfErr-weaker}
-use Rattle.annbuild_commands.specs.IndexOf.{vamana_words, words_of}
-use Rattle.annbuild_commands.specs.Limits.{words_refusal, answers_refusal}
+use Rattle.index_build.specs.IndexOf.{vamana_words, words_of}
+use Rattle.index_build.specs.Limits.{words_refusal, answers_refusal}
 use Rattle.annbuild_commands.specs.Living.{live_refusal}
 use Rattle.annbuild_commands.proofs.Fits.{queries_fit}
 use Rattle.annbuild_commands.proofs.LiveFacts.{live_words, live_refused, on_ok}

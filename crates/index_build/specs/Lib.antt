@@ -1,0 +1,2 @@
+pub mod IndexOf
+pub mod Limits
