@@ -1,13 +1,10 @@
-//! End-to-end tests over the top call: worked files and queries, refusals, failing calls, and the adapters of the real
-//! outside.
+//! End-to-end tests over the top call: worked files and queries, gates, sessions, and the adapters of the real outside.
 #![tactic(auto)]
 
 #[cfg(test)]
 mod adapters;
 #[cfg(test)]
 mod build;
-#[cfg(test)]
-mod failing;
 #[cfg(test)]
 mod gates;
 #[cfg(test)]
@@ -17,8 +14,4 @@ mod live_gates;
 #[cfg(test)]
 mod made;
 #[cfg(test)]
-mod memory;
-#[cfg(test)]
 mod query;
-#[cfg(test)]
-mod refusals;

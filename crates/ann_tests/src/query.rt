@@ -1,5 +1,8 @@
-//! `query`: worked answers, and files that don't fit together.
-use top_calls::{FOUR, FOUR_BY_FOUR, FOUR_BY_ONE, NONE, call};
+//! `query`: worked answers, files that don't fit together, and lines that are written in pieces.
+use ann_shelf::NoMemory;
+use annbuild_commands::{Fault, Role};
+use std::alloc::Global;
+use top_calls::{FOUR, FOUR_BY_FOUR, FOUR_BY_ONE, Failing, NONE, call};
 
 #[test]
 fn worked_queries_give_their_lines(rt: HostRuntime) {
@@ -81,5 +84,47 @@ fn files_that_do_not_fit_are_refused_in_their_order(rt: HostRuntime) {
         assert_eq!(rt; ended.status.code, 6);
         assert!(rt; ended.out.bytes().is_empty());
         assert!(rt; ended.err.bytes() == line);
+    }
+}
+
+/// A file of 5,000 queries, all for 12.
+fn five_thousand(alloc: Global) -> Result<Vec<u8>, NoMemory> {
+    let mut queries = Vec::new(alloc);
+    queries.extend_from_slice(b"\x88\x13\0\0\x01\0\0\0")?;
+    for _ in 0..5000u32 {
+        queries.push(12)?;
+    }
+    Ok(queries)
+}
+
+#[test]
+fn a_round_is_written_in_pieces_of_whole_lines(rt: HostRuntime) {
+    let asked = five_thousand(rt.alloc()).expect(&rt, "memory");
+    let files = [
+        ("pts", FOUR),
+        ("ann", FOUR_BY_ONE),
+        ("ask", asked.as_slice()),
+    ];
+    let words = "query pts ann ask";
+    let whole = call(&rt, rt.alloc(), words, &files, NONE).expect(&rt, "memory");
+    assert_eq!(rt; whole.status.code, 0);
+    // A line has about 26 bytes: the 4,096 lines of the first round fill two pieces, and the others one.
+    let mut before = 0usize;
+    for number in 1..=4u64 {
+        let out = [number, 0];
+        let ended = call(&rt, rt.alloc(), words, &files, Failing { out, ..NONE }).expect(
+            &rt, "memory",
+        );
+        let lines = ended.out.bytes();
+        assert!(rt; whole.out.bytes().starts_with(lines));
+        assert!(rt; lines.is_empty() || lines.ends_with(b"\n"));
+        assert!(rt; lines.len() >= before && lines.len() - before <= 65_536);
+        before = lines.len();
+        if number < 4 {
+            assert!(rt; ended.status.fault == Some(Fault::Write { file: Role::Output }));
+        } else {
+            assert_eq!(rt; ended.status.code, 0);
+            assert!(rt; lines.len() == whole.out.bytes().len());
+        }
     }
 }

@@ -163,63 +163,6 @@ fn a_failed_call_is_told(rt: HostRuntime) -> Result<(), Fail> {
 }
 
 #[test]
-fn a_broken_rule_is_named_with_its_place(rt: HostRuntime) {
-    let alloc = rt.alloc();
-    for (place, byte, rule) in [
-        (0, 81, IndexRule::Magic),
-        (4, 2, IndexRule::Version),
-        (8, 0, IndexRule::Kind),
-        (8, 4, IndexRule::Kind),
-        (12, 0, IndexRule::ZeroCount),
-        (16, 0, IndexRule::ZeroDim),
-        (20, 0, IndexRule::Degree),
-        (24, 4, IndexRule::Start),
-        (28, 2, IndexRule::Layers),
-        (40, 3, IndexRule::Degree),
-        (48, 0, IndexRule::DoubleEdge),
-        (48, 1, IndexRule::SelfEdge),
-        (48, 4, IndexRule::IdRange),
-    ] {
-        let mut bytes = FOUR_POINTS;
-        if let Some(cell) = bytes.get_mut(place) {
-            *cell = byte;
-        }
-        assert_eq!(rt;
-            fault_of(alloc, &bytes),
-            Some(IndexFault::Malformed {
-                place: place as u64,
-                rule
-            }),
-            "{byte} at {place}"
-        );
-    }
-    assert_eq!(rt;
-        fault_of(alloc, &FOUR_POINTS[..50]),
-        Some(IndexFault::Malformed {
-            place: 50,
-            rule: IndexRule::Short
-        })
-    );
-    assert_eq!(rt;
-        fault_of(alloc, &FOUR_POINTS[..31]),
-        Some(IndexFault::Malformed {
-            place: 31,
-            rule: IndexRule::ShortHeader
-        })
-    );
-    let mut longer = [0u8; 69];
-    longer[..68].copy_from_slice(&FOUR_POINTS);
-    assert_eq!(rt;
-        fault_of(alloc, &longer),
-        Some(IndexFault::Malformed {
-            place: 68,
-            rule: IndexRule::Trailing
-        })
-    );
-    assert_eq!(rt; fault_of(alloc, &FOUR_POINTS), None);
-}
-
-#[test]
 fn a_short_file_that_promises_much_is_refused_where_it_ends(rt: HostRuntime) {
     let mut bytes = FOUR_POINTS;
     bytes[12..16].copy_from_slice(&[0, 0, 64, 0]);

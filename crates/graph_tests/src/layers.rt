@@ -1,11 +1,11 @@
 //! Files of indexes with further layers.
 use crate::indexes::{FOUR_POINTS, TWO_LAYERS, fault_of};
-use ann_shelf::{MemShelf, Quantity};
+use ann_shelf::MemShelf;
 use graph_files::{IndexFault, IndexRule, Kind, read_index, write_index};
 use std::test::*;
 
 // Layer 1 holds 1 and 3, which are in each other's rows; layer 2 holds 1.
-const THREE_LAYERS: [u8; 108] = [
+pub(crate) const THREE_LAYERS: [u8; 108] = [
     80, 65, 78, 78, 1, 0, 0, 0, 2, 0, 0, 0, 4, 0, 0, 0, 1, 0, 0, 0, 1, 0, 0, 0, 1, 0, 0, 0, 3, 0,
     0, 0, 1, 0, 0, 0, 1, 0, 0, 0, 2, 0, 0, 0, 0, 0, 0, 0, 2, 0, 0, 0, 1, 0, 0, 0, 1, 0, 0, 0, 1, 0,
     0, 0, 1, 0, 0, 0, 2, 0, 0, 0, 1, 0, 0, 0, 3, 0, 0, 0, 1, 0, 0, 0, 3, 0, 0, 0, 1, 0, 0, 0, 1, 0,
@@ -72,27 +72,6 @@ fn a_layered_file_may_have_one_layer(rt: HostRuntime) {
 }
 
 #[test]
-fn each_cut_of_a_layered_file_is_refused_where_it_ends(rt: HostRuntime) {
-    for file in [TWO_LAYERS.as_slice(), THREE_LAYERS.as_slice()] {
-        for cut in 0..file.len() {
-            let rule = if cut < 32 {
-                IndexRule::ShortHeader
-            } else {
-                IndexRule::Short
-            };
-            assert_eq!(rt;
-                fault_of(rt.alloc(), &file[..cut]),
-                Some(IndexFault::Malformed {
-                    place: cut as u64,
-                    rule
-                }),
-                "cut at {cut}"
-            );
-        }
-    }
-}
-
-#[test]
 fn a_broken_rule_of_a_layer_is_named_with_its_place(rt: HostRuntime) {
     for (at, byte, place, rule) in TWO_BROKEN {
         let mut bytes = TWO_LAYERS;
@@ -116,29 +95,4 @@ fn a_broken_rule_of_a_layer_is_named_with_its_place(rt: HostRuntime) {
             "{byte} at {at}"
         );
     }
-    let mut longer = [0u8; 81];
-    longer[..80].copy_from_slice(&TWO_LAYERS);
-    assert_eq!(rt;
-        fault_of(rt.alloc(), &longer),
-        Some(IndexFault::Malformed {
-            place: 80,
-            rule: IndexRule::Trailing
-        })
-    );
-}
-
-#[test]
-fn a_layered_index_has_at_most_degree_64(rt: HostRuntime) {
-    let mut bytes = TWO_LAYERS;
-    bytes[20] = 64;
-    assert_eq!(rt; fault_of(rt.alloc(), &bytes), None);
-    bytes[20] = 65;
-    assert_eq!(rt;
-        fault_of(rt.alloc(), &bytes),
-        Some(IndexFault::TooLarge {
-            name: Quantity::Degree,
-            value: 65,
-            limit: 64
-        })
-    );
 }

@@ -4,6 +4,8 @@
 #![tactic(auto)]
 
 #[cfg(test)]
+mod damage;
+#[cfg(test)]
 mod indexes;
 #[cfg(test)]
 mod layers;

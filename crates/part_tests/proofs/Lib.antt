@@ -1,2 +1,3 @@
 mod LayerBatch
+mod Later
 mod PrunedLine

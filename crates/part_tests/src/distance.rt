@@ -3,7 +3,7 @@ ghost use Rattle.std.specs.Prelude.{◌≡◌, ◌≤◌, length};
 ghost use Rattle.ann_defs.specs.Distance.{dist_of};
 
 use ann_defs::MAX_DIM;
-use lane_distance::dist;
+use lane_distance::{dist, dist_within};
 
 // The same, byte by byte from the first to the last.
 fn plain(a: &[u8], b: &[u8]) -> u32
@@ -58,4 +58,44 @@ fn differences_are_squared_in_both_directions(rt: HostRuntime) {
     assert!(rt; dist(&[0, 10], &[255, 7]) == 65034);
     assert!(rt; dist(&[255, 7], &[0, 10]) == 65034);
     assert!(rt; dist(&[3, 200, 255], &[3, 200, 255]) == 0);
+}
+
+// Whether the distance of the first `n` bytes of two points is told as far as each of some bounds asks for it.
+fn is_told_within(n: usize) -> bool {
+    let mut a = [0u8; 2048];
+    let mut b = [0u8; 2048];
+    for i in 0..2048usize {
+        a[i] = (i * 37 % 256) as u8;
+        b[i] = (i * i * 11 % 256) as u8;
+    }
+    if n > 2048 {
+        return false;
+    }
+    let whole = dist(&a[..n], &b[..n]);
+    let mut told = true;
+    for most in [
+        whole,
+        whole.saturating_add(1),
+        whole.saturating_sub(1),
+        0,
+        u32::MAX,
+    ] {
+        let part = dist_within(&a[..n], &b[..n], most);
+        told = told && (whole > most || part == whole) && (whole <= most || part > most);
+    }
+    told
+}
+
+#[test]
+fn a_distance_within_a_bound_is_exact_and_else_more(rt: HostRuntime) {
+    for n in [0usize, 1, 15, 16, 31, 32, 63, 64, 65, 100, 128, 2048] {
+        assert!(rt; is_told_within(n));
+    }
+}
+
+#[test]
+fn what_is_left_of_a_far_point_is_not_taken(rt: HostRuntime) {
+    assert!(rt; dist_within(&[0; 128], &[1; 128], 64) == 128);
+    assert!(rt; dist_within(&[0; 128], &[1; 128], 63) == 64);
+    assert!(rt; dist_within(&[0; 2048], &[1; 2048], 700) == 704);
 }

@@ -30,4 +30,6 @@ mod pruning;
 #[cfg(test)]
 mod searching;
 #[cfg(test)]
+mod settled;
+#[cfg(test)]
 mod shelves;

@@ -69,7 +69,7 @@ fn merge_at_one(points: &Points, degree: u32, out: &mut [u32]) -> usize
             source: 3,
         },
     ];
-    merged_row(&pruning, 1, &[0], &sources, &mut room, out)
+    merged_row(&pruning, 1, &[0], 1, &sources, &mut room, out)
 }
 
 #[test]
@@ -90,7 +90,7 @@ struct NearestMerges<'a> {
 }
 
 impl<'a> Merging for NearestMerges<'a> {
-    ghost use Rattle.std.specs.Prelude.{◌+◌, ◌≤◌, length};
+    ghost use Rattle.std.specs.Prelude.{◌+◌, ◌≤◌, true, length};
     ghost use Rattle.ann_defs.specs.BatchInsert.{merge_with};
     ghost use Rattle.ann_defs.proofs.GoodRows.{merged_good};
     ghost use Rattle.robust_prune.specs.Nearest.{nearest_row, nearest_without_good};
@@ -102,6 +102,8 @@ impl<'a> Merging for NearestMerges<'a> {
     ghost most = { λ m. m.pruning.degree };
 
     ghost merged = { λ m t row sources. merge_with (λ u set. nearest_row m.pruning.points.now.vectors u set m.pruning.degree) m.pruning.degree t row sources };
+
+    ghost knows = { λ m t row. true };
 
     ghost serves = { λ m s. length m.pruning.points.now.vectors + m.pruning.degree ≤ length s.items };
 
@@ -121,6 +123,7 @@ impl<'a> Merging for NearestMerges<'a> {
             &self.pruning,
             target,
             row,
+            0,
             sources,
             scratch.as_mut_slice(),
             out,

@@ -66,8 +66,12 @@ fn points_are_the_same_by_element_and_numbers(rt: HostRuntime) -> Result<(), Fai
 #[test]
 fn a_file_is_judged_by_its_first_broken_rule(rt: HostRuntime) -> Result<(), Fail> {
     let malformed = |place: u64, rule: PointsRule| PointsFault::Malformed { place, rule };
-    let table: [(&[u8], PointsFault); 8] = [
-        (&[], malformed(0, PointsRule::ShortHeader)),
+    let over = |name: Quantity, value: u64, limit: u64| PointsFault::TooLarge {
+        name,
+        value,
+        limit,
+    };
+    let table: [(&[u8], PointsFault); 13] = [
         (
             &[0, 0, 0, 0, 1, 0, 0, 0],
             malformed(0, PointsRule::ZeroCount),
@@ -75,11 +79,28 @@ fn a_file_is_judged_by_its_first_broken_rule(rt: HostRuntime) -> Result<(), Fail
         (&[1, 0, 0, 0, 0, 0, 0, 0], malformed(4, PointsRule::ZeroDim)),
         (
             &[1, 0, 64, 0, 1, 0, 0, 0],
-            PointsFault::TooLarge {
-                name: Quantity::Count,
-                value: 4194305,
-                limit: 4194304,
-            },
+            over(Quantity::Count, 4194305, 4194304),
+        ),
+        (
+            &[255, 255, 255, 255, 255, 255, 255, 255],
+            over(Quantity::Count, 4294967295, 4194304),
+        ),
+        (&[1, 0, 0, 0, 1, 8, 0, 0], over(Quantity::Dim, 2049, 2048)),
+        (
+            &[1, 0, 0, 0, 255, 255, 255, 255],
+            over(Quantity::Dim, 4294967295, 2048),
+        ),
+        (
+            &[0, 0, 64, 0, 1, 1, 0, 0],
+            over(Quantity::Cells, 1077936128, 1073741824),
+        ),
+        (
+            &[1, 0, 0, 0, 0, 8, 0, 0, 1],
+            malformed(9, PointsRule::ShortBody),
+        ),
+        (
+            &[0, 0, 64, 0, 1, 0, 0, 0, 1],
+            malformed(9, PointsRule::ShortBody),
         ),
         (
             &[4, 0, 0, 0, 2, 0, 0, 0, 1, 2, 3, 4, 5, 6, 7],
@@ -102,6 +123,25 @@ fn a_file_is_judged_by_its_first_broken_rule(rt: HostRuntime) -> Result<(), Fail
     for (bytes, fault) in table {
         let mut shelf = MemShelf::new(rt.alloc());
         shelf.put("points", bytes)?;
+        assert!(rt; read_points(rt.alloc(), &mut shelf, "points").err() == Some(fault));
+    }
+    Ok(())
+}
+
+#[test]
+fn each_cut_of_points_is_refused_where_it_ends(rt: HostRuntime) -> Result<(), Fail> {
+    for cut in 0..FOUR.len() {
+        let mut shelf = MemShelf::new(rt.alloc());
+        shelf.put("points", &FOUR[..cut])?;
+        let rule = if cut < 8 {
+            PointsRule::ShortHeader
+        } else {
+            PointsRule::ShortBody
+        };
+        let fault = PointsFault::Malformed {
+            place: cut as u64,
+            rule,
+        };
         assert!(rt; read_points(rt.alloc(), &mut shelf, "points").err() == Some(fault));
     }
     Ok(())

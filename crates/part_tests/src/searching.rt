@@ -197,6 +197,6 @@ fn read_ahead(alloc: Global, count: usize) -> Result<Option<[u32; 4]>, NoMemory>
 
 #[test]
 fn reading_ahead_of_many_points_leaves_the_ids(rt: HostRuntime) -> Result<(), Fail> {
-    assert!(rt; read_ahead(rt.alloc(), 600)? == Some([3, 599, 5, 0]));
+    assert!(rt; read_ahead(rt.alloc(), 600)? == Some([3, 599, 5, 1]));
     Ok(())
 }

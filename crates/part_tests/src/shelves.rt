@@ -154,3 +154,30 @@ fn writes_with_set_numbers_fail_and_add_nothing(rt: HostRuntime) -> Result<(), F
     assert!(rt; out.bytes() == b"abef".as_slice());
     Ok(())
 }
+
+#[test]
+fn a_call_moves_no_more_than_its_piece(rt: HostRuntime) -> Result<(), Fail> {
+    let mut shelf = one_file(rt.alloc(), "a", &[1, 2, 3, 4, 5])?;
+    shelf.set_piece(2);
+    assert!(rt; reads(&mut shelf, "a", 1, &[2, 3])?);
+    assert!(rt; reads(&mut shelf, "a", 4, &[5])?);
+    shelf.begin("b")?;
+    assert!(rt; shelf.append("b", &[6, 7, 8])? == 2);
+    append_all(&mut shelf, "b", &[8, 9, 10])?;
+    shelf.finish("b")?;
+    assert!(rt; has(&shelf, "b", &[6, 7, 8, 9, 10]));
+    // Two reads, a begin, an append, two more of three bytes, and a finish.
+    assert!(rt; shelf.calls() == 7);
+    Ok(())
+}
+
+#[test]
+fn a_write_takes_no_more_than_its_piece(rt: HostRuntime) -> Result<(), Fail> {
+    let mut out = MemOut::new(rt.alloc());
+    out.set_piece(3);
+    assert!(rt; out.write(b"abcd")? == 3);
+    out.fail_call(3)?;
+    assert!(rt; write_all(&mut out, b"defgh") == Err(Slip::Failed));
+    assert!(rt; out.bytes() == b"abcdef".as_slice());
+    Ok(())
+}

@@ -21,6 +21,11 @@ pub const FOUR_WIDE: &[u8] =
 pub const FOUR_IN_ONE_LAYER: &[u8] =
     b"PANN\x01\0\0\0\x02\0\0\0\x04\0\0\0\x01\0\0\0\x01\0\0\0\0\0\0\0\x01\0\0\0\x01\0\0\0\x01\0\0\0\x02\0\0\0\0\0\0\0\x02\0\0\0\x01\0\0\0\x01\0\0\0\x01\0\0\0\x01\0\0\0";
 
+/// An HNSW index of them whose layer 1 holds point 1 alone, with an empty row: degree 1, beam 4, in file order but for the
+/// start, which comes first, with batches of at most 4.
+pub const FOUR_IN_TWO_LAYERS: &[u8] =
+    b"PANN\x01\0\0\0\x02\0\0\0\x04\0\0\0\x01\0\0\0\x01\0\0\0\x01\0\0\0\x02\0\0\0\x01\0\0\0\x01\0\0\0\x02\0\0\0\0\0\0\0\x02\0\0\0\x01\0\0\0\x01\0\0\0\x01\0\0\0\x01\0\0\0\x01\0\0\0\x01\0\0\0\0\0\0\0";
+
 /// An index of lists of them: kind 3, and the rows of [`FOUR_BY_ONE`].
 pub const FOUR_IN_LISTS: &[u8] =
     b"PANN\x01\0\0\0\x03\0\0\0\x04\0\0\0\x01\0\0\0\x02\0\0\0\0\0\0\0\x01\0\0\0\x01\0\0\0\x01\0\0\0\x02\0\0\0\0\0\0\0\x02\0\0\0\x02\0\0\0\x01\0\0\0\x03\0\0\0\x01\0\0\0\x02\0\0\0";
