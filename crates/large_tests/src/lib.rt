@@ -2,8 +2,12 @@
 #![tactic(auto)]
 
 #[cfg(test)]
-mod large;
-#[cfg(test)]
 mod layered;
 #[cfg(test)]
 mod listed;
+#[cfg(test)]
+mod made;
+#[cfg(test)]
+mod pools;
+#[cfg(test)]
+mod vamana;
