@@ -3,7 +3,7 @@
 #   tests/refused_memory.sh PROGRAM
 # A run is right where it is done as without the refusal, or ends with code 8 and its line, its files as they were or the new
 # one whole, and a prefix of its lines printed. Prints a line for each command, with how many allocations were refused, and
-# ends with 1 if a run fell short. It is no part of the gate: it takes some minutes, and a C compiler.
+# ends with 1 if a run fell short. It is no part of the gate: it takes two minutes, and a C compiler.
 program=$(realpath "${1:?the program}") || exit 2
 home=$(mktemp -d) || exit 2
 trap 'rm -rf "$home"' EXIT
@@ -98,7 +98,8 @@ each() {
         number=$((number + 1))
         rm -f mark
         [ -z "$stored" ] || cp "at_entry/$stored" "work/$stored"
-        (cd work && REFUSED_AT=$number REFUSED_MARK=$home/mark LD_PRELOAD=$home/refuse.so timeout 60 "$program" "$@" >../out 2>../err)
+        # The program alone is under the library.
+        (cd work && timeout 60 env REFUSED_AT=$number REFUSED_MARK="$home/mark" LD_PRELOAD="$home/refuse.so" "$program" "$@" >../out 2>../err)
         status=$?
         if [ -e mark ]; then none=0; else none=$((none + 1)); fi
         [ $status = 8 ] && wanted=$((wanted + 1))
