@@ -23,7 +23,7 @@ HERE = os.path.dirname(os.path.abspath(__file__))
 DOCS = os.path.join(HERE, "..", "docs")
 DEGREE, BEAM, K = 32, 128, 10
 WIDTHS = [10, 16, 24, 32, 48, 64, 96, 128, 192]
-SETS = [(10_000, 128), (20_000, 16), (100_000, 32)]
+SETS = [(20_000, 16), (10_000, 128), (100_000, 16)]
 QUERIES = 5_000
 THREADS = (1, 4)
 
@@ -239,8 +239,8 @@ def main():
                 name = f"{kind}-{count}x{dim}.svg"
                 plot(title, rows, os.path.join(plots, name))
                 text += [f"## {title}", "", *table(rows), "", f"![recall against queries a second](benchmarks/{name})", ""]
-    with open(os.path.join(given.out, "BENCHMARKS.md"), "w") as file:
-        file.write("\n".join(text))
+                with open(os.path.join(given.out, "BENCHMARKS.md"), "w") as file:
+                    file.write("\n".join(text))
 
 
 if __name__ == "__main__":
