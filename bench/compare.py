@@ -222,6 +222,8 @@ def main():
     load = os.getloadavg()[0]
     with open(os.path.join(HERE, "head.md")) as file:
         text = [file.read().rstrip(), ""]
+    with open(os.path.join(HERE, "tail.md")) as file:
+        last = file.read()
     text += [
         f"Measured on {datetime.date.today()}: {processor()}, {os.cpu_count()} processors; a load of {load:.1f} from other work when it began.",
         "",
@@ -240,7 +242,7 @@ def main():
                 plot(title, rows, os.path.join(plots, name))
                 text += [f"## {title}", "", *table(rows), "", f"![recall against queries a second](benchmarks/{name})", ""]
                 with open(os.path.join(given.out, "BENCHMARKS.md"), "w") as file:
-                    file.write("\n".join(text))
+                    file.write("\n".join([*text, last]))
 
 
 if __name__ == "__main__":
