@@ -183,7 +183,7 @@ def plot(title, rows, name):
     axes.grid(True, which="both", alpha=0.3)
     axes.legend()
     figure.tight_layout()
-    figure.savefig(name, metadata={"Date": None})
+    figure.savefig(name, metadata={"Date": None, "Creator": None})
     pyplot.close(figure)
 
 
