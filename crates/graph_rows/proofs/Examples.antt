@@ -98,7 +98,7 @@ two_well_formed = record {
   base = refl;
   rows = flat_rows 4 2 four_rows four_good;
   upper = (further, tt);
-  stamp = refl;
+  stamp = tt;
 }
 
 abbrev index_of : ℕ → ℕ → ℕ → List (List ℕ) → List Layered → Contents

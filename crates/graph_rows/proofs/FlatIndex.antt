@@ -59,7 +59,7 @@ flat_well_formed kind n dim degree start rows good some count wide narrow wants 
       base = ids_enumerate 0 rows ∙ ap (range_with_len 0) good.count;
       rows = flat_rows n (base_bound kind degree) rows (subst (λ b. AreGoodRows n b rows) (sym k.3) good);
       upper = tt;
-      stamp = refl;
+      stamp = tt;
     }
 
 -- the rows of layer 0, as a search and a prune want them

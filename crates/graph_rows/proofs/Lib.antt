@@ -6,5 +6,6 @@ pub mod LayerLists
 pub mod LayerRowFacts
 pub mod MemberIds
 pub mod Parts
+pub mod Stamped
 pub mod Totals
 pub mod WellFormedProps

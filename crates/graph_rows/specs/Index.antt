@@ -1,7 +1,7 @@
--- The contents of an index, and the bytes of its file, version 1.
-use Rattle.std.specs.Prelude.{ℕ, List, [], ◌∷◌, ◌++◌, map, length, max, Option, None}
+-- The contents of an index, and the bytes of its file.
+use Rattle.std.specs.Prelude.{ℕ, List, [], ◌∷◌, ◌++◌, map, length, max, Option, Some, None}
 use Rattle.std.specs.List.{flat_map, enumerate_from, sum_by, fold}
-use Rattle.std.specs.Int.{to_le_bytes, w32}
+use Rattle.std.specs.Int.{to_le_bytes, w32, w64}
 use Rattle.graph_rows.specs.declared.stamp.Stamp.{Stamp}
 
 -- an index: its kind's code, its four numbers, its layers from 0 on, each as its ids with their rows, and its stamp
@@ -51,13 +51,32 @@ abbrev pub layers_bytes : List (List (ℕ × List ℕ)) → List ℕ
 layers_bytes [] = []
 layers_bytes (base ∷ upper) = rows_bytes (layer_rows base) ++ flat_map layer_bytes upper
 
+-- the words of a stamp before its seed, in the order of the file
+abbrev pub stamp_numbers : Stamp → List ℕ
+stamp_numbers s =
+    s.element ∷ s.order ∷ s.start_kind ∷ s.beam ∷ s.num ∷ s.den ∷ s.cap ∷ s.bits ∷ s.max_level ∷ s.list ∷ s.trees ∷ s.leaf ∷ s.rounds ∷ s.passes ∷ []
+
+-- a stamp: these words, seed and floor in eight bytes each, and the digest
+abbrev pub stamp_bytes : Stamp → List ℕ
+stamp_bytes s = words (stamp_numbers s) ++ to_le_bytes w64 s.seed ++ to_le_bytes w64 s.floor ++ s.digest
+
+-- the bytes of a stamp, none where there is none
+abbrev pub stamp_text : Option Stamp → List ℕ
+stamp_text None = []
+stamp_text (Some s) = stamp_bytes s
+
+-- the version of an index with a stamp, and of one without
+abbrev pub version_of : Option Stamp → ℕ
+version_of None = 1
+version_of (Some s) = 2
+
 -- the eight words before the layers: the text PANN, the version, the kind, the numbers, how many layers there are
 abbrev pub header_words : Contents → List ℕ
-header_words i = 1313751376 ∷ 1 ∷ i.kind ∷ i.count ∷ i.dim ∷ i.degree ∷ i.start ∷ length i.layers ∷ []
+header_words i = 1313751376 ∷ version_of i.stamp ∷ i.kind ∷ i.count ∷ i.dim ∷ i.degree ∷ i.start ∷ length i.layers ∷ []
 
 -- the one text of an index
 unfoldable pub text_of : Contents → List ℕ
-text_of i = words (header_words i) ++ layers_bytes i.layers
+text_of i = words (header_words i) ++ stamp_text i.stamp ++ layers_bytes i.layers
 
 -- how many ids all rows of all layers have
 abbrev pub edges_of : Contents → ℕ

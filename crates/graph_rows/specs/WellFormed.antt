@@ -1,10 +1,11 @@
 -- The rules of a well-formed index, and the limits.
-use Rattle.std.specs.Prelude.{◌≡◌, ◌≢◌, ℕ, ◌+◌, ◌*◌, ◌^◌, ◌<◌, ◌≤◌, ◌==◌, ◌&&◌, Bool, true, nat_lt, nat_eq, if◌then◌else◌, List, [], ◌∷◌, drop, length, slice_index_or, None}
+use Rattle.std.specs.Prelude.{◌≡◌, ◌≢◌, ℕ, ◌+◌, ◌*◌, ◌^◌, ◌<◌, ◌≤◌, ◌==◌, ◌&&◌, Bool, true, nat_lt, nat_eq, if◌then◌else◌, List, [], ◌∷◌, drop, length, slice_index_or}
 use Rattle.std.specs.List.{All, IsDistinct, range_with_len, sum_by}
 use Rattle.ann_defs.specs.declared.limits.TheConstants.{MAX_POINTS, MAX_DIM, MAX_WORDS, MAX_DEGREE}
 use Rattle.ann_defs.specs.Graph.{has}
 use Rattle.graph_rows.specs.Index.{Contents, layer_ids}
 use Rattle.ann_defs.specs.Ordered.{Ascends}
+use Rattle.graph_rows.specs.Stamps.{IsStamped}
 
 -- whether a kind may have so many layers
 abbrev pub layers_fit : ℕ → ℕ → Bool
@@ -53,7 +54,7 @@ pub record IsWellFormed (i : Contents) : Type 0 where
   pub base : layer_ids (base_of i) ≡ range_with_len 0 i.count
   pub rows : AreRowsOf (λ v. nat_lt v i.count) (base_bound i.kind i.degree) (base_of i)
   pub upper : AreFurtherLayers i.start i.degree (λ v. nat_lt v i.count) (drop 1 i.layers)
-  pub stamp : i.stamp ≡ None
+  pub stamp : IsStamped i.kind i.stamp
 
 -- the greatest degree of a kind
 abbrev pub greatest_degree : ℕ → ℕ
