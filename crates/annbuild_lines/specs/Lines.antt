@@ -113,6 +113,7 @@ index_rule_name index_rules.SelfEdge = codes "self edge"
 index_rule_name index_rules.DoubleEdge = codes "double edge"
 index_rule_name index_rules.Short = codes "short"
 index_rule_name index_rules.Trailing = codes "trailing"
+index_rule_name index_rules.Stamp = codes "stamp"
 
 abbrev pub gone_rule_name : GoneRule → List ℕ
 gone_rule_name gone_rules.ShortHeader = codes "short header"

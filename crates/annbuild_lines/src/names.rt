@@ -75,6 +75,7 @@ fn index_rule_text(rule: IndexRule) -> &'static str
         IndexRule::DoubleEdge => "double edge",
         IndexRule::Short => "short",
         IndexRule::Trailing => "trailing",
+        IndexRule::Stamp => "stamp",
     }
 }
 

@@ -1,5 +1,5 @@
 -- What is known of an index whose layers were read.
-use Rattle.std.proofs.Common.{◌≡◌, ℕ, ◌+◌, ◌≤◌, true, nat_lt, List, ◌∷◌, length, refl, sym, ap, subst, ◌∙◌, arith, None}
+use Rattle.std.proofs.Common.{◌≡◌, ℕ, ◌+◌, ◌≤◌, true, nat_lt, List, ◌∷◌, length, sym, ap, subst, ◌∙◌, arith, None}
 use Rattle.std.specs.List.{sum_by, range_with_len, enumerate_from}
 use Rattle.std.proofs.lemmas.Bool.Decides.{nat_tests}
 use Rattle.graph_files.specs.declared.header.Header.{Header}
@@ -36,7 +36,7 @@ module _ (h : Header) (kind : ℕ) (rows : List (List ℕ)) (upper : List Entrie
         base = ids_enumerate 0 rows ∙ ap (range_with_len 0) count;
         rows = subst (λ b. AreRowsOf (λ id. nat_lt id h.count) b (enumerate_from 0 rows)) bound_is (rows_counted (λ id. nat_lt id h.count) bound h.count rows count are);
         upper = further;
-        stamp = refl;
+        stamp = tt;
       } in
       subst (λ k. IsWellFormed (index k)) (sym is) whole
 

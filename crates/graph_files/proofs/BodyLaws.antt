@@ -1,13 +1,15 @@
 -- The layers of a file from their parts.
-use Rattle.std.proofs.Common.{◌≡◌, ℕ, ◌-◌, List, [], ◌∷◌, length, drop, eqb, Bool, true, false, not, cond, Some, None, Result, Ok, refl, sym, ap, subst, ◌∙◌, nat_lt}
+use Rattle.std.proofs.Common.{◌≡◌, ℕ, ◌-◌, List, [], ◌∷◌, length, drop, eqb, Bool, true, false, not, cond, Option, Some, None, Result, Ok, refl, sym, ap, subst, ◌∙◌, nat_lt}
 use Rattle.std.specs.List.{range_with_len, enumerate_from}
+use Rattle.graph_rows.specs.declared.stamp.Stamp.{Stamp}
 use Rattle.graph_rows.specs.Index.{Contents}
 use Rattle.graph_files.specs.declared.header.Header.{Header}
 use Rattle.graph_files.specs.declared.fault.IndexFault.{IndexFault}
 use Rattle.graph_files.specs.declared.fault.IndexFault.TheVariants.{Malformed}
 use Rattle.graph_files.specs.declared.fault.IndexRule.TheVariants.{Trailing}
 use Rattle.graph_rows.specs.WellFormed.{base_bound, layer_words}
-use Rattle.graph_files.specs.Grammar.{◌>>=◌, unless, rows_at, layers_at, end_fault, body_at, header_at, index_in}
+use Rattle.graph_files.specs.Grammar.{◌>>=◌, unless, rows_at, layers_at, end_fault, stamp_at, layers_place, body_at, header_at, index_in}
+use Rattle.graph_rows.specs.Stamps.{stamped}
 use Rattle.graph_files.specs.Reading.{Fails, Gives}
 use Rattle.graph_files.proofs.RowLoop.{fails_with, fails_before, fails_along}
 
@@ -49,13 +51,25 @@ module _ (h : Header) (file : List ℕ) (at : ℕ) where
   pub body_is : (base : List (List ℕ) × ℕ) (upper : List (List (ℕ × List ℕ)) × ℕ) → the_base ≡ Ok base → the_upper base.1 ≡ Ok upper → None ≡ end_fault file upper.1 → body_at h file at ≡ Ok (made base.0 upper.0)
   body_is base upper step next sound = all_read base upper step next ∙ ap (λ o. unless o (Ok (made base.0 upper.0))) (sym sound)
 
+-- the steps after the header
+abbrev pub after_stamp : Header → List ℕ → Option Stamp → Result Contents IndexFault
+after_stamp h file s = body_at h file (layers_place h.version) >>= (λ i. Ok (stamped s i))
+
+abbrev pub after_header : List ℕ → Header → Result Contents IndexFault
+after_header file h = stamp_at h file >>= after_stamp h file
+
 pub index_header : (fault : IndexFault) (file : List ℕ) → Fails fault (header_at file) → Fails fault (index_in file)
 unfolding index_in
-index_header fault file broken = fails_before fault (header_at file) (λ h. body_at h file 32) broken
+index_header fault file broken = fails_before fault (header_at file) (after_header file) broken
 
-pub index_body : (file : List ℕ) (h : Header) → header_at file ≡ Ok h → index_in file ≡ body_at h file 32
+pub index_stamp : (fault : IndexFault) (file : List ℕ) (h : Header) → header_at file ≡ Ok h → Fails fault (stamp_at h file) → Fails fault (index_in file)
 unfolding index_in
-index_body file h step = ap (λ r. r >>= (λ k. body_at k file 32)) step
+index_stamp fault file h step broken = fails_along fault _ (index_in file) (sym (ap (λ r. r >>= after_header file) step)) (fails_before fault (stamp_at h file) (after_stamp h file) broken)
+
+-- where header and stamp are read
+pub index_body : (file : List ℕ) (h : Header) (s : Option Stamp) → header_at file ≡ Ok h → stamp_at h file ≡ Ok s → index_in file ≡ (body_at h file (layers_place h.version) >>= (λ i. Ok (stamped s i)))
+unfolding index_in
+index_body file h s step next = ap (λ r. r >>= after_header file) step ∙ ap (λ r. r >>= after_stamp h file) next
 
 pub no_layers : (start degree : ℕ) (below : ℕ → Bool) (count words : ℕ) (file : List ℕ) (more at : ℕ) → more ≡ 0 → layers_at start degree below count words file more at [] ≡ Ok ([], at)
 unfolding layers_at

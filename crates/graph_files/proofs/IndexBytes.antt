@@ -4,7 +4,7 @@ use Rattle.std.specs.List.{flat_map, enumerate_from}
 use Rattle.std.proofs.lemmas.List.{append-nil}
 use Rattle.std.proofs.lemmas.List.Folds.{flat_map-map}
 use Rattle.ann_shelf.specs.Files.{Files, with_file, Grows}
-use Rattle.graph_rows.specs.Index.{Contents, words, rows_bytes, layer_bytes, layers_bytes, header_words, text_of}
+use Rattle.graph_rows.specs.Index.{Contents, words, rows_bytes, layer_bytes, layers_bytes, stamp_text, header_words, text_of}
 use Rattle.graph_rows.specs.Layers.{Layered}
 use Rattle.graph_files.specs.Writing.{Adds}
 use Rattle.graph_files.proofs.Grown.{adds_both, adds_along}
@@ -33,11 +33,19 @@ adds_all a b c name p q r piece text first second none is files x begun =
     end.1 ∙ ap (λ w. Some (with_file files name w))
     (sym (append-nil end.0) ∙ ap (λ xs. end.0 ++ xs) (sym none) ∙ end.2 ∙ append-nil (body.0 ++ q) ∙ body.2 ∙ append_assoc x p piece ∙ ap (λ w. x ++ w) is)
 
-pub text_is : (i : Contents) → words (header_words i) ++ layers_bytes i.layers ≡ text_of i
+pub text_is : (i : Contents) → words (header_words i) ++ stamp_text i.stamp ++ layers_bytes i.layers ≡ text_of i
 unfolding text_of
 text_is i = refl
 
--- the header in an empty buffer, and the layers
-pub text_from : (i : Contents) (p q hs : List ℕ) → p ≡ q ++ words hs → q ≡ [] → hs ≡ header_words i → p ++ layers_bytes i.layers ≡ text_of i
-text_from i p q hs pushed empty header =
-    ap (λ xs. xs ++ layers_bytes i.layers) (pushed ∙ ap (λ xs. xs ++ words hs) empty ∙ ap (λ ns. words ns) header) ∙ text_is i
+-- the header in an empty buffer, the stamp, and the layers
+pub text_from : (i : Contents) (p q r hs : List ℕ) → p ≡ q ++ words hs → q ≡ [] → hs ≡ header_words i → r ≡ p ++ stamp_text i.stamp → r ++ layers_bytes i.layers ≡ text_of i
+text_from i p q r hs pushed empty header marked =
+    ap (λ xs. xs ++ layers_bytes i.layers) (marked ∙ ap (λ xs. xs ++ stamp_text i.stamp) (pushed ∙ ap (λ xs. xs ++ words hs) empty ∙ ap (λ ns. words ns) header))
+    ∙ append_assoc (words (header_words i)) (stamp_text i.stamp) (layers_bytes i.layers) ∙ text_is i
+
+-- four pieces one after another
+pub four_added : (p a b c d w x y z : List ℕ) → a ≡ p ++ w → b ≡ a ++ x → c ≡ b ++ y → d ≡ c ++ z → d ≡ p ++ (w ++ x ++ y ++ z)
+four_added p a b c d w x y z first second third fourth =
+    let two : b ≡ p ++ (w ++ x) = second ∙ ap (λ l. l ++ x) first ∙ append_assoc p w x in
+    let three : c ≡ p ++ (w ++ x ++ y) = third ∙ ap (λ l. l ++ y) two ∙ append_assoc p (w ++ x) y in
+    fourth ∙ ap (λ l. l ++ z) three ∙ append_assoc p (w ++ x ++ y) z

@@ -1,5 +1,5 @@
 -- A file is read as an index exactly where it is the text of one that is well formed and within the limits.
-use Rattle.std.proofs.Common.{◌≡◌, ℕ, zero, suc, ◌+◌, ◌-◌, ◌^◌, ◌<◌, ◌≤◌, Bool, true, false, not, cond, nat_lt, eqb, List, [], ◌∷◌, ◌++◌, length, drop, get_or, Option, Some, None, Result, Ok, inl, inr, refl, sym, ap, ◌∙◌, arith}
+use Rattle.std.proofs.Common.{◌≡◌, ℕ, zero, suc, ◌+◌, ◌-◌, ◌^◌, ◌<◌, ◌≤◌, Bool, true, false, not, cond, nat_lt, eqb, List, [], ◌∷◌, ◌++◌, length, drop, get_or, Some, None, Result, Ok, inl, inr, refl, sym, ap, ◌∙◌, arith}
 use Rattle.std.specs.List.{range_with_len, enumerate_from, flat_map}
 use Rattle.std.specs.Int.{w32, from_le_bytes}
 use Rattle.std.proofs.lemmas.Bool.{cases_lt, le-ltb, lt-ltb, ltb-true, ltb-false, eqb-true, eqb-false, ne_eqb, eq-eqb}
@@ -11,22 +11,26 @@ use Rattle.bin_files.specs.Points.{u32_at}
 use Rattle.ann_defs.proofs.Members.{has_true}
 use Rattle.graph_files.specs.declared.header.Header.{Header}
 use Rattle.graph_files.specs.declared.fault.IndexFault.{IndexFault}
-use Rattle.graph_files.specs.Grammar.{◌>>=◌, unless, rows_at, layers_at, end_fault, header_at, body_at, index_in}
-use Rattle.graph_files.specs.Header.{header_in, is_read, form_fault, limit_fault}
-use Rattle.graph_rows.specs.Index.{Contents, word, words, layer_ids, layer_rows, rows_bytes, layer_bytes, layers_bytes, header_words, text_of}
+use Rattle.graph_files.specs.Grammar.{◌>>=◌, unless, rows_at, layers_at, end_fault, header_at, stamp_at, layers_place, body_at, index_in}
+use Rattle.graph_rows.specs.Stamps.{stamped}
+use Rattle.graph_files.specs.Header.{header_in, is_version, is_read, form_fault, limit_fault}
+use Rattle.graph_rows.specs.Index.{Contents, word, words, layer_ids, layer_rows, rows_bytes, layer_bytes, layers_bytes, stamp_text, version_of, header_words, text_of}
 use Rattle.graph_rows.specs.WellFormed.{layers_fit, base_bound, greatest_degree, layer_words}
 use Rattle.graph_rows.proofs.LayerLists.{rows_enumerate}
 use Rattle.graph_files.proofs.IndexBytes.{text_is}
 use Rattle.bin_files.proofs.Turned.{AreBytes}
 use Rattle.graph_files.proofs.ReadTexts.{bind_ok, unless_ok, cond_ok, ok_same, word_there, rows_told, layers_told}
 use Rattle.graph_files.proofs.RowLoop.{member_is}
+use Rattle.graph_files.proofs.StampLaws.{passed, negated}
+use Rattle.graph_files.proofs.StampTexts.{stamp_told}
+use Rattle.graph_files.proofs.BodyLaws.{after_stamp, after_header}
 use Rattle.graph_files.proofs.TextReads.{Holds}
 use Rattle.graph_files.proofs.UpperLoop.{Entries}
 
 -- what a header without a broken rule says
 pub record IsForm (h : Header) : Type 0 where
   pub magic : h.magic ≡ 1313751376
-  pub version : h.version ≡ 1
+  pub version : is_version h.version ≡ true
   pub kind : is_read h.kind ≡ true
   pub count : 1 ≤ h.count
   pub dim : 1 ≤ h.dim
@@ -34,19 +38,10 @@ pub record IsForm (h : Header) : Type 0 where
   pub start : h.start < h.count
   pub layers : layers_fit h.kind h.layers ≡ true
 
--- a chain of checks that all passed
-passed : (b : Bool) (fault : IndexFault) (rest : Option IndexFault) → cond b (Some fault) rest ≡ None → (b ≡ false) × (rest ≡ None)
-passed true fault rest e = absurd cc
-passed false fault rest e = (refl, e)
-
-negated : (b : Bool) → not b ≡ false → b ≡ true
-negated true e = refl
-negated false e = absurd cc
-
 pub form_of_none : (h : Header) → form_fault h ≡ None → IsForm h
 form_of_none h e =
     let a = passed (not (eqb h.magic 1313751376)) _ _ e in
-    let b = passed (not (eqb h.version 1)) _ _ a.1 in
+    let b = passed (not (is_version h.version)) _ _ a.1 in
     let c = passed (not (is_read h.kind)) _ _ b.1 in
     let d = passed (eqb h.count 0) _ _ c.1 in
     let f = passed (eqb h.dim 0) _ _ d.1 in
@@ -55,7 +50,7 @@ form_of_none h e =
     let l = passed (not (layers_fit h.kind h.layers)) _ _ s.1 in
     record {
       magic = eqb-true h.magic 1313751376 (negated (eqb h.magic 1313751376) a.0);
-      version = eqb-true h.version 1 (negated (eqb h.version 1) b.0);
+      version = negated (is_version h.version) b.0;
       kind = negated (is_read h.kind) c.0;
       count = some h.count d.0;
       dim = some h.dim f.0;
@@ -72,7 +67,7 @@ pub none_of_form : (h : Header) → IsForm h → form_fault h ≡ None
 none_of_form h is =
     rw (
       eq-eqb h.magic 1313751376 is.magic,
-      eq-eqb h.version 1 is.version,
+      is.version,
       is.kind,
       ne_eqb h.count 0 (λ e. absurd (omega (arith, is.count))),
       ne_eqb h.dim 0 (λ e. absurd (omega (arith, is.dim))),
@@ -138,37 +133,44 @@ made h base upper = record { kind = h.kind; count = h.count; dim = h.dim; degree
 pub index_text : (file : List ℕ) (i : Contents) → AreBytes file → index_in file ≡ Ok i → file ≡ text_of i
 unfolding index_in body_at
 index_text file i are e =
-    let b = bind_ok (header_at file) (λ h. body_at h file 32) i e in
+    let b = bind_ok (header_at file) (after_header file) i e in
     let h = b.0 in
     let head = header_told file h b.1 in
     let form = form_of_none h head.2 in
+    let m = bind_ok (stamp_at h file) (after_stamp h file) i b.2 in
+    let s = m.0 in
+    let mark = stamp_told file h s are form.version m.1 in
+    let at = layers_place h.version in
+    let c = bind_ok (body_at h file at) (λ body. Ok (stamped s body)) i m.2 in
+    let whole : stamped s c.0 ≡ i = ok_same (stamped s c.0) i c.2 in
     let Upper : ℕ → Result (List Entries × ℕ) IndexFault = λ at. layers_at h.start h.degree (λ id. nat_lt id h.count) h.count (layer_words h.count (base_bound h.kind h.degree)) file (h.layers - 1) at [] in
-    let d = bind_ok (rows_at (λ id. nat_lt id h.count) (base_bound h.kind h.degree) file (range_with_len 0 h.count) 32 []) (λ base. Upper base.1 >>= (λ upper. unless (end_fault file upper.1) (Ok (made h base.0 upper.0)))) i b.2 in
+    let d = bind_ok (rows_at (λ id. nat_lt id h.count) (base_bound h.kind h.degree) file (range_with_len 0 h.count) at []) (λ base. Upper base.1 >>= (λ upper. unless (end_fault file upper.1) (Ok (made h base.0 upper.0)))) c.0 c.1 in
     let base = d.0 in
-    let f = bind_ok (Upper base.1) (λ upper. unless (end_fault file upper.1) (Ok (made h base.0 upper.0))) i d.2 in
+    let f = bind_ok (Upper base.1) (λ upper. unless (end_fault file upper.1) (Ok (made h base.0 upper.0))) c.0 d.2 in
     let upper = f.0 in
-    let u = unless_ok (end_fault file upper.1) (Ok (made h base.0 upper.0)) i f.2 in
-    let is : made h base.0 upper.0 ≡ i = ok_same (made h base.0 upper.0) i u.1 in
-    let rows = rows_told file are (λ id. nat_lt id h.count) (base_bound h.kind h.degree) (range_with_len 0 h.count) 32 [] base d.1 in
+    let u = unless_ok (end_fault file upper.1) (Ok (made h base.0 upper.0)) c.0 f.2 in
+    let is : made h base.0 upper.0 ≡ c.0 = ok_same (made h base.0 upper.0) c.0 u.1 in
+    let rows = rows_told file are (λ id. nat_lt id h.count) (base_bound h.kind h.degree) (range_with_len 0 h.count) at [] base d.1 in
     let layers = layers_told file are h.start h.degree (λ id. nat_lt id h.count) h.count (layer_words h.count (base_bound h.kind h.degree)) (h.layers - 1) base.1 [] upper f.1 in
     let ended : drop upper.1 file ≡ [] = nil_from_length (drop upper.1 file) (at_end (length (drop upper.1 file)) _ u.0) in
     let many : h.layers ≡ length (enumerate_from 0 base.0 ∷ upper.0) = let some = layers_some h.kind h.layers form.layers in omega (arith, layers.2, ap (λ (ls : List Entries). length ls) layers.1) in
     let Words : Header → List ℕ = λ k. k.magic ∷ k.version ∷ k.kind ∷ k.count ∷ k.dim ∷ k.degree ∷ k.start ∷ k.layers ∷ [] in
-    let fields : Words (header_in file) ≡ header_words (made h base.0 upper.0) =
+    let fields : Words (header_in file) ≡ header_words (stamped s (made h base.0 upper.0)) =
     sym (ap Words head.1)
     ∙ ap (λ n. n ∷ h.version ∷ h.kind ∷ h.count ∷ h.dim ∷ h.degree ∷ h.start ∷ h.layers ∷ []) form.magic
-    ∙ ap (λ n. 1313751376 ∷ n ∷ h.kind ∷ h.count ∷ h.dim ∷ h.degree ∷ h.start ∷ h.layers ∷ []) form.version
-    ∙ ap (λ n. 1313751376 ∷ 1 ∷ h.kind ∷ h.count ∷ h.dim ∷ h.degree ∷ h.start ∷ n ∷ []) many in
-    let body : drop 32 file ≡ layers_bytes (made h base.0 upper.0).layers =
+    ∙ ap (λ n. 1313751376 ∷ n ∷ h.kind ∷ h.count ∷ h.dim ∷ h.degree ∷ h.start ∷ h.layers ∷ []) mark.0
+    ∙ ap (λ n. 1313751376 ∷ version_of s ∷ h.kind ∷ h.count ∷ h.dim ∷ h.degree ∷ h.start ∷ n ∷ []) many in
+    let body : drop at file ≡ layers_bytes (made h base.0 upper.0).layers =
     rows.3
     ∙ ap (λ xs. rows_bytes rows.0 ++ xs) (layers.3 ∙ ap (λ xs. flat_map layer_bytes layers.0 ++ xs) ended ∙ append-nil (flat_map layer_bytes layers.0))
     ∙ ap (λ (rs : List (List ℕ)). rows_bytes rs ++ flat_map layer_bytes layers.0) (sym rows.1 ∙ sym (rows_enumerate 0 base.0))
     ∙ ap (λ (ls : List Entries). rows_bytes (layer_rows (enumerate_from 0 base.0)) ++ flat_map layer_bytes ls) (sym layers.1) in
     front_words file head.0 are
     ∙ ap (λ ns. words ns ++ drop 32 file) fields
-    ∙ ap (λ xs. words (header_words (made h base.0 upper.0)) ++ xs) body
-    ∙ text_is (made h base.0 upper.0)
-    ∙ ap text_of is
+    ∙ ap (λ xs. words (header_words (stamped s (made h base.0 upper.0))) ++ xs) (mark.1 ∙ ap (λ xs. stamp_text s ++ xs) body)
+    ∙ text_is (stamped s (made h base.0 upper.0))
+    ∙ ap (λ (x : Contents). text_of (stamped s x)) is
+    ∙ ap text_of whole
   where
     decided : (b : Bool) (fault : IndexFault) → cond b None (Some fault) ≡ None → b ≡ true
     decided true fault e = refl

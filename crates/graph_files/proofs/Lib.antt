@@ -14,6 +14,9 @@ pub mod ReadTexts
 pub mod RowLoop
 pub mod RowsLoop
 pub mod Shown
+pub mod StampLaws
+pub mod StampReads
+pub mod StampTexts
 pub mod Told
 pub mod TextReads
 pub mod UpperLoop

@@ -1,5 +1,5 @@
 -- What a file of an index holds: each part from its place on, or the part's first broken rule.
-use Rattle.std.specs.Prelude.{ℕ, zero, suc, ◌+◌, ◌-◌, ◌*◌, Bool, not, ◌||◌, ◌==◌, List, [], ◌∷◌, ◌++◌, length, drop, Option, Some, None, Result, Ok, Err, nat_lt, if◌then◌else◌}
+use Rattle.std.specs.Prelude.{ℕ, zero, suc, ◌+◌, ◌-◌, ◌*◌, Bool, not, ◌||◌, ◌==◌, List, [], ◌∷◌, ◌++◌, length, take, drop, Option, Some, None, Result, Ok, Err, nat_lt, if◌then◌else◌}
 use Rattle.std.specs.List.{enumerate_from, range_with_len, zip}
 use Rattle.bin_files.specs.Points.{u32_at}
 use Rattle.ann_shelf.specs.declared.slip.Quantity.TheVariants.{Words}
@@ -9,9 +9,12 @@ use Rattle.graph_files.specs.declared.header.Header.{Header}
 use Rattle.graph_files.specs.declared.fault.IndexFault.{IndexFault}
 use Rattle.graph_files.specs.declared.fault.IndexFault.TheVariants.{Malformed, TooLarge}
 use Rattle.graph_files.specs.declared.fault.IndexRule.TheVariants.{ShortHeader, Degree, LayerIds, IdRange, SelfEdge, DoubleEdge, Short, Trailing}
+use Rattle.graph_rows.specs.declared.stamp.Stamp.{Stamp}
 use Rattle.graph_rows.specs.Index.{Contents}
+use Rattle.graph_rows.specs.Stamps.{stamped}
 use Rattle.graph_rows.specs.WellFormed.{base_bound, layer_words}
 use Rattle.graph_files.specs.Header.{header_in, form_fault, limit_fault}
+use Rattle.graph_files.specs.Stamping.{stamp_in, stamp_fault}
 
 -- one step after another, up to the first fault
 infixl 10 ◌>>=◌
@@ -108,7 +111,17 @@ header_at bytes =
 abbrev pub end_fault : List ℕ → ℕ → Option IndexFault
 end_fault bytes at = if length (drop at bytes) == 0 then None else Some (Malformed at Trailing)
 
--- the layers from a place on, and nothing behind them
+-- the stamp, where there is one
+unfoldable pub stamp_at : Header → List ℕ → Result (Option Stamp) IndexFault
+stamp_at h bytes =
+    if h.version == 1 then Ok None
+    else unless (stamp_fault h.kind (take 136 bytes)) (Ok (Some (stamp_in (take 136 bytes))))
+
+-- where the layers begin
+abbrev pub layers_place : (version : ℕ) → ℕ
+layers_place version = if version == 1 then 32 else 136
+
+-- the layers from a place on, and nothing behind them: the index but for its stamp
 unfoldable pub body_at : Header → List ℕ → ℕ → Result Contents IndexFault
 body_at h bytes at = do
   base ← rows_at (λ id. nat_lt id h.count) (base_bound h.kind h.degree) bytes (range_with_len 0 h.count) at []
@@ -119,7 +132,9 @@ body_at h bytes at = do
 unfoldable pub index_in : List ℕ → Result Contents IndexFault
 index_in bytes = do
   h ← header_at bytes
-  body_at h bytes 32
+  stamp ← stamp_at h bytes
+  body ← body_at h bytes (layers_place h.version)
+  Ok (stamped stamp body)
 
 -- none, or the first broken rule of a file with its place
 unfoldable pub verdict : List ℕ → Option IndexFault

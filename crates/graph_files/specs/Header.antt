@@ -1,5 +1,5 @@
 -- The header of a file: eight words, and the first broken rule of them.
-use Rattle.std.specs.Prelude.{ℕ, Bool, not, ◌&&◌, ◌==◌, nat_le, List, Option, Some, None, nat_lt, if◌then◌else◌}
+use Rattle.std.specs.Prelude.{ℕ, Bool, not, ◌&&◌, ◌||◌, ◌==◌, nat_le, List, Option, Some, None, nat_lt, if◌then◌else◌}
 use Rattle.ann_defs.specs.declared.limits.TheConstants.{MAX_POINTS, MAX_DIM, MAX_WORDS}
 use Rattle.bin_files.specs.Points.{u32_at}
 use Rattle.ann_shelf.specs.declared.slip.Quantity.TheVariants.{Count, Dim, Degree as DegreeOf, Words}
@@ -24,7 +24,7 @@ header_in bytes = record {
 
 -- the versions that are read
 abbrev pub is_version : ℕ → Bool
-is_version version = version == 1
+is_version version = version == 1 || version == 2
 
 -- the kinds that are read
 abbrev pub is_read : ℕ → Bool

@@ -1,4 +1,5 @@
 pub mod Grammar
 pub mod Header
 pub mod Reading
+pub mod Stamping
 pub mod Writing

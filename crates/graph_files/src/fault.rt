@@ -9,7 +9,7 @@ pub enum IndexRule {
     ShortHeader,
     /// It does not begin with the text PANN.
     Magic,
-    /// The version is not 1.
+    /// The version is not 1 or 2.
     Version,
     /// The kind is not one that is read.
     Kind,
@@ -36,6 +36,8 @@ pub enum IndexRule {
     Short,
     /// Something follows the last layer.
     Trailing,
+    /// A field of the stamp has no allowed value.
+    Stamp,
 }
 
 /// Why the file of an index was not read.

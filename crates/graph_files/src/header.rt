@@ -33,7 +33,7 @@ pub(crate) struct Header {
 fn is_read_version(version: u32) -> bool
     ensures { result ≡ is_version version }
 {
-    version == 1
+    version == 1 || version == 2
 }
 
 // Whether files of a kind are read.
@@ -190,6 +190,8 @@ pub(crate) fn read_header<F: Shelf>(
     ensures limits { IfOk result (λ h. limit_fault h ≡ None) }
     ensures bytes { IfOk result (λ _. IfSome (F.shown shelf.old).held (λ files. AreBytesIn (bytes_of files name.now) 0 32)) }
     ensures shows { IfSome (F.shown shelf.old).held (λ files. Shows (bytes_of files name.now) window.new) }
+    ensures front { IfOk result (λ _. (window.new.from ≡ 0) × (32 ≤ window.new.len)) }
+    ensures ends { IfOk result (λ _. IfSome (F.shown shelf.old).held (λ files. window.new.len < 16384 → window.new.len ≡ length (bytes_of files name.now))) }
     ensures only_reads { OnlyReads (F.shown shelf.old) (F.shown shelf.new) name.now (IsErrOf result IndexFault.Read) }
 {
     window.move_to(shelf, name, 0)?;

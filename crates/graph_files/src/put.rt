@@ -1,12 +1,35 @@
 //! Words that go to a file through a buffer.
 ghost use Rattle.std.specs.Prelude.{◌≡◌, ◌+◌, ◌*◌, ◌≤◌, ◌++◌, [], length, OnOk, IsErrOf};
 ghost use Rattle.ann_shelf.specs.Shown.{OnlyWrites};
-ghost use Rattle.graph_rows.specs.Index.{word, words, row_bytes};
+ghost use Rattle.graph_rows.specs.Index.{word, words, row_bytes, stamp_numbers, stamp_bytes, stamp_text};
 ghost use Rattle.graph_files.specs.Writing.{pending, Adds};
 
+use crate::Stamp;
 use crate::pieces::Pieces;
 use ann_defs::MAX_DEGREE;
 use ann_shelf::{Shelf, Slip, append_all};
+
+// The words of a stamp before its seed.
+fn numbers_of(stamp: &Stamp) -> [u32; 14]
+    ensures { result ≡ stamp_numbers stamp.now }
+{
+    [
+        stamp.element,
+        stamp.order,
+        stamp.start_kind,
+        stamp.beam,
+        stamp.num,
+        stamp.den,
+        stamp.cap,
+        stamp.bits,
+        stamp.max_level,
+        stamp.list,
+        stamp.trees,
+        stamp.leaf,
+        stamp.rounds,
+        stamp.passes,
+    ]
+}
 
 impl Pieces {
     /// A buffer with nothing in it.
@@ -29,6 +52,39 @@ impl Pieces {
         let part = &mut self.bytes[self.len..self.len + 4];
         part.copy_from_slice(&n.to_le_bytes());
         self.len += 4;
+    }
+
+    /// Some more bytes.
+    pub(crate) fn push_bytes(&mut self, more: &[u8])
+        requires { self.old.len + length more.now ≤ 16384 }
+        ensures bytes { pending self.new ≡ pending self.old ++ more.now }
+        ensures len { self.new.len ≡ self.old.len + length more.now }
+    {
+        let part = &mut self.bytes[self.len..self.len + more.len()];
+        part.copy_from_slice(more);
+        self.len += more.len();
+    }
+
+    /// The bytes of a stamp.
+    fn push_stamp(&mut self, stamp: &Stamp)
+        requires { self.old.len + 136 ≤ 16384 }
+        ensures bytes { pending self.new ≡ pending self.old ++ stamp_bytes stamp.now }
+    {
+        self.push_all(&numbers_of(stamp));
+        self.push_bytes(&stamp.seed.to_le_bytes());
+        self.push_bytes(&stamp.floor.to_le_bytes());
+        self.push_bytes(&stamp.digest);
+    }
+
+    /// The bytes of a stamp, where there is one.
+    pub(crate) fn push_mark(&mut self, stamp: &Option<Stamp>)
+        requires { self.old.len + 136 ≤ 16384 }
+        ensures bytes { pending self.new ≡ pending self.old ++ stamp_text stamp.now }
+    {
+        match stamp {
+            Some(stamp) => self.push_stamp(stamp),
+            None => {}
+        }
     }
 
     /// Four more bytes for each number.

@@ -2,7 +2,7 @@
 ghost use Rattle.std.specs.Prelude.{◌≡◌, ℕ, ◌⊎◌, ◌+◌, ◌<◌, ◌≤◌, ◌^◌, length, None, Ok, IfOk, IfErr, IfSome, IsErrOf, not, ◌==◌, drop};
 ghost use Rattle.ann_shelf.specs.Files.{bytes_of};
 ghost use Rattle.ann_shelf.specs.Shown.{OnlyReads};
-ghost use Rattle.graph_files.specs.Grammar.{body_at, index_in};
+ghost use Rattle.graph_files.specs.Grammar.{body_at, index_in, layers_place};
 ghost use Rattle.graph_files.specs.Header.{form_fault, limit_fault};
 ghost use Rattle.graph_rows.specs.Index.{Contents, text_of};
 ghost use Rattle.graph_files.specs.Reading.{AreBytesIn, Gives, Shows};
@@ -12,6 +12,7 @@ ghost use Rattle.graph_rows.specs.WellFormed.{IsWellFormed, IsWithinLimits};
 use crate::header::{Header, bound_of, read_header};
 use crate::read_layers::read_layers;
 use crate::read_rows::read_graph;
+use crate::read_stamp::read_stamp;
 use crate::window::Window;
 use crate::{Index, IndexFault, IndexRule, Kind};
 use ann_shelf::Shelf;
@@ -32,6 +33,14 @@ fn kind_of(code: u32) -> Kind
     Kind::Nnd
 }
 
+// Where the layers begin.
+fn place_of_layers(version: u32) -> u64
+    ensures value { result ≡ layers_place version }
+    ensures near { result ≤ 136 }
+{
+    if version == 1 { 32 } else { 136 }
+}
+
 // Whether something stands at a place or behind it.
 fn read_end<F: Shelf>(
     shelf: &mut F,
@@ -48,7 +57,7 @@ fn read_end<F: Shelf>(
     Ok(window.len != 0)
 }
 
-// All layers, and nothing behind them.
+// All layers, and nothing behind them: the index but for its stamp.
 fn read_body<F: Shelf>(
     alloc: Global,
     shelf: &mut F,
@@ -64,6 +73,7 @@ fn read_body<F: Shelf>(
     ensures body { IfSome (F.shown shelf.old).held (λ files. Gives contents result (body_at h (bytes_of files name.now) at)) }
     ensures well_formed { IfOk result (λ i. IsWellFormed (contents i)) }
     ensures limits { IfOk result (λ i. IsWithinLimits (contents i)) }
+    ensures kind { IfOk result (λ i. kind_code i.kind ≡ h.kind) }
     ensures bytes { IfOk result (λ _. IfSome (F.shown shelf.old).held (λ files. (end : ℕ) × AreBytesIn (bytes_of files name.now) at end × (length (bytes_of files name.now) ≤ end))) }
     ensures only_reads { OnlyReads (F.shown shelf.old) (F.shown shelf.new) name.now (IsErrOf result IndexFault.Read) }
 {
@@ -126,5 +136,8 @@ pub fn read_index<F: Shelf>(alloc: Global, shelf: &mut F, name: &str) -> Result<
 {
     let mut window = Window::new();
     let header = read_header(shelf, name, &mut window)?;
-    read_body(alloc, shelf, name, &mut window, header, 32)
+    let stamp = read_stamp(&window, header)?;
+    let place = place_of_layers(header.version);
+    let index = read_body(alloc, shelf, name, &mut window, header, place)?;
+    Ok(index.with_stamp(stamp))
 }

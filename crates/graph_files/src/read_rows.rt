@@ -16,11 +16,15 @@ use ann_shelf::Shelf;
 use graph_rows::Members;
 use std::alloc::Global;
 
-/// Whether an id is among these.
+/// Whether an id is among these. All are compared, without a branch, so that several are at once.
 pub(crate) fn among(id: u32, ids: &[u32]) -> bool
     ensures { result ≡ has ids.now id }
 {
-    ids.iter().any(|other| *other == id)
+    let mut found = false;
+    for other in ids {
+        found |= *other == id;
+    }
+    found
 }
 
 // The first rule that an id breaks after these ids of its row.

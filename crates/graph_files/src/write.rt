@@ -2,7 +2,7 @@
 ghost use Rattle.std.specs.Prelude.{◌≡◌, ◌≤◌, ◌<◌, [], Some, flat_map, vec_len, IfSome, OnOk, OnErr, IsErrOf};
 ghost use Rattle.ann_shelf.specs.Files.{with_file, Grows};
 ghost use Rattle.ann_shelf.specs.Shown.{OnlyWrites};
-ghost use Rattle.graph_rows.specs.Index.{words, rows_bytes, layer_bytes, layers_bytes, header_words, text_of};
+ghost use Rattle.graph_rows.specs.Index.{words, rows_bytes, layer_bytes, layers_bytes, version_of, header_words, text_of};
 ghost use Rattle.graph_rows.specs.Layers.{Layered};
 ghost use Rattle.graph_rows.specs.View.{kind_code, contents};
 ghost use Rattle.graph_rows.specs.WellFormed.{IsWellFormed};
@@ -10,7 +10,7 @@ ghost use Rattle.graph_files.specs.Writing.{pending, Adds};
 
 use crate::header::MAGIC;
 use crate::pieces::Pieces;
-use crate::{FlatGraph, Index, Kind, Layer};
+use crate::{FlatGraph, Index, Kind, Layer, Stamp};
 use ann_shelf::{Shelf, Slip};
 
 // A kind's code in a file.
@@ -24,6 +24,16 @@ fn code_of(kind: Kind) -> u32
     }
 }
 
+// The version of an index: 2 where it has a stamp.
+fn version_of(stamp: &Option<Stamp>) -> u32
+    ensures { result ≡ version_of stamp.now }
+{
+    match stamp {
+        Some(_) => 2,
+        None => 1,
+    }
+}
+
 // The words before the layers.
 fn header_of(index: &Index) -> [u32; 8]
     requires { vec_len index.now.upper ≤ 15 }
@@ -32,7 +42,7 @@ fn header_of(index: &Index) -> [u32; 8]
     let layers = 1 + index.upper.len() as u32;
     [
         MAGIC,
-        1,
+        version_of(&index.stamp),
         code_of(index.kind),
         index.count,
         index.dim,
@@ -133,6 +143,7 @@ fn write_text<F: Shelf>(shelf: &mut F, name: &str, index: &Index) -> Result<(), 
 {
     let mut pieces = Pieces::new();
     pieces.push_all(&header_of(index));
+    pieces.push_mark(&index.stamp);
     write_body(&mut pieces, shelf, name, index)?;
     pieces.flush(shelf, name)
 }

@@ -6,7 +6,7 @@ use ann_shelf::Quantity;
 use graph_files::{IndexFault, IndexRule};
 
 /// An index of lists: kind 3, rows [1], [0, 2], [1, 3] and [2].
-const IN_LISTS: [u8; 72] = [
+pub(crate) const IN_LISTS: [u8; 72] = [
     80, 65, 78, 78, 1, 0, 0, 0, 3, 0, 0, 0, 4, 0, 0, 0, 1, 0, 0, 0, 2, 0, 0, 0, 0, 0, 0, 0, 1, 0,
     0, 0, 1, 0, 0, 0, 1, 0, 0, 0, 2, 0, 0, 0, 0, 0, 0, 0, 2, 0, 0, 0, 2, 0, 0, 0, 1, 0, 0, 0, 3, 0,
     0, 0, 1, 0, 0, 0, 2, 0, 0, 0,
@@ -23,7 +23,7 @@ const IN_EVERY_KIND: [Broken; 15] = [
     (0, 0, 0, IndexRule::Magic),
     (0, MOST, 0, IndexRule::Magic),
     (4, 0, 4, IndexRule::Version),
-    (4, 2, 4, IndexRule::Version),
+    (4, 3, 4, IndexRule::Version),
     (4, MOST, 4, IndexRule::Version),
     (8, 0, 8, IndexRule::Kind),
     (8, 4, 8, IndexRule::Kind),

@@ -9,3 +9,5 @@ mod damage;
 mod indexes;
 #[cfg(test)]
 mod layers;
+#[cfg(test)]
+mod stamps;
