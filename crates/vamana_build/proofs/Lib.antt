@@ -3,3 +3,4 @@ pub mod NewRowFacts
 pub mod Stepping
 pub mod NextBatch
 pub mod SettledRows
+pub mod Factors

@@ -14,10 +14,10 @@ start_below p =
     subst (λ (order : List ℕ). slice_index order 0 < n) p.ordered (All-get_or (λ u. u < n) p.order.items 0 0 some p.inside)
 
 -- the points of a batch are those between its bounds
-pub batch_is : (p : Plan) (k from to : ℕ) → from ≡ bound_at (length p.points.now.vectors) p.cap k → to ≡ bound_at (length p.points.now.vectors) p.cap (k + 1) → take (to - from) (drop from p.order.items) ≡ batch_at (order_of p.points.now.vectors p.settings) (batch_cap p.points.now.vectors p.settings) (suc k)
+pub batch_is : (p : Plan) (k from to : ℕ) → from ≡ bound_at (length p.points.now.vectors) p.cap k → to ≡ bound_at (length p.points.now.vectors) p.cap (k + 1) → take (to - from) (drop from p.order.items) ≡ batch_at (order_of p.points.now.vectors p.settings) (batch_cap p.points.now.vectors p.settings) (k + 1)
 batch_is p k from to low high =
     let count : length p.points.now.vectors ≡ length (order_of p.points.now.vectors p.settings) = sym p.whole ∙ ap length p.ordered in
     let next : k + 1 ≡ suc k = omega arith in
     let low' : from ≡ bound_at (length (order_of p.points.now.vectors p.settings)) (batch_cap p.points.now.vectors p.settings) k = low ∙ (λ i. bound_at (count i) (p.capped i) k) in
     let high' : to ≡ bound_at (length (order_of p.points.now.vectors p.settings)) (batch_cap p.points.now.vectors p.settings) (suc k) = high ∙ (λ i. bound_at (count i) (p.capped i) (next i)) in
-    λ i. take (high' i - low' i) (drop (low' i) (p.ordered i))
+    (λ i. take (high' i - low' i) (drop (low' i) (p.ordered i))) ∙ ap (batch_at (order_of p.points.now.vectors p.settings) (batch_cap p.points.now.vectors p.settings)) (sym next)

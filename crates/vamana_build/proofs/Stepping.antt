@@ -1,10 +1,7 @@
 -- From one graph of a build to the next.
-use Rattle.std.proofs.Common.{◌≡◌, ℕ, suc, ◌+◌, ◌-◌, ◌*◌, ◌%◌, ◌<◌, ◌≤◌, Bool, false, cond, List, [], length, map, sym, ap, ◌∙◌, subst, arith}
-use Rattle.std.specs.Prelude.{nat_le}
+use Rattle.std.proofs.Common.{◌≡◌, ℕ, suc, ◌+◌, ◌%◌, ◌<◌, ◌≤◌, Bool, List, [], length, map, sym, ap, ◌∙◌, subst, arith}
 use Rattle.std.specs.List.{range_with_len}
 use Rattle.std.specs.Ordering.{nat_cmp}
-use Rattle.std.proofs.Math.Nat.{mod-eq_of_lt}
-use Rattle.std.proofs.lemmas.Bool.{lt-leb}
 use Rattle.std.proofs.lemmas.List.FromFn.{get_or-map-range_with_len}
 use Rattle.ann_defs.specs.Ordered.{ordered}
 use Rattle.ann_defs.specs.Graph.{row_in, AreGoodRows}
@@ -12,7 +9,7 @@ use Rattle.ann_defs.specs.BatchInsert.{Build, new_row_of, merged_row_of, last_ro
 use Rattle.ann_defs.proofs.Members.{range_has}
 use Rattle.ann_defs.proofs.GoodGraphs.{graph_after_good, last_row_good}
 use Rattle.vamana_build.specs.declared.settings.VamanaSettings.{VamanaSettings}
-use Rattle.vamana_build.specs.Builds.{order_of, batch_cap, batches_of, build_of, start_of, rows_at, graph_at}
+use Rattle.vamana_build.specs.Builds.{order_of, batch_cap, pass_of, build_of, build_at, start_of, rows_at, graph_at}
 use Rattle.batch_insert.specs.Changes.{differing, put_all}
 use Rattle.vamana_build.specs.Changes.{change_at}
 use Rattle.batch_insert.proofs.Ascending.{has_same}
@@ -42,33 +39,24 @@ module _ (points : List (List ℕ)) (s : VamanaSettings) (starts : start_of poin
   n = length points
 
   abbrev b : Build
-  b = build_of points s
+  b = build_at points s k
 
   next : k + 1 ≡ suc k
   next = omega arith
 
   pub rows_good : AreGoodRows n s.degree (rows_at points s k)
-  rows_good = graph_after_good b starts (order_of points s) (batch_cap points s) k
+  rows_good = graph_after_good (build_of points s) starts (order_of points s) (batch_cap points s) k
 
   abbrev pub batch_of : List ℕ
-  batch_of = batch_at (order_of points s) (batch_cap points s) (suc k)
+  batch_of = batch_at (order_of points s) (batch_cap points s) (k % pass_of points s + 1)
 
-  -- the one pass is the last, so each batch sees the settings' factor
-  at_last : (pass : ℕ) → at_batch b pass (suc k) ≡ b
-  at_last pass =
-      let late : nat_le (suc k) ((b.passes - 1) * pass) ≡ false = lt-leb (suc k) ((b.passes - 1) * pass) (omega arith) in
-      λ i. record b { num = cond (late i) 1 b.num; den = cond (late i) 1 b.den }
-
-  module _ (whole : length (order_of points s) ≡ n) (left : k < batches_of points s) where
+  module _ (whole : length (order_of points s) ≡ n) where
     -- the next graph is one step on
     step_is : rows_at points s (suc k) ≡ batch_step b (rows_at points s k) batch_of
     step_is =
         let order = order_of points s in
         let cap = batch_cap points s in
-        let pass = total_of (length order) cap in
-        let within : k < pass = subst (λ m. k < total_of m cap) (sym whole) left in
-        let place : k % pass + 1 ≡ suc k = ap (λ j. j + 1) (mod-eq_of_lt within) ∙ next in
-        λ i. batch_step (at_last pass i) (rows_at points s k) (batch_at order cap (place i))
+        λ i. batch_step (at_batch (build_of points s) (total_of (whole i) cap) (sym next i)) (rows_at points s k) (batch_at order cap (k % total_of (whole i) cap + 1))
 
     -- the rows after the batch, in ascending order, are the next graph's
     pub next_row : (u : ℕ) → u < n → last_row_of b (rows_at points s k) (ordered nat_cmp batch_of) u ≡ row_in (rows_at points s (k + 1)) u

@@ -4,8 +4,9 @@
 -- a Single Node", NeurIPS 2019: GreedySearch, RobustPrune and the insertion of Algorithms 1 to 3), with the points
 -- inserted in batches of doubling size (Manohar and others, "ParlayANN: Scalable and Deterministic Parallel Graph-Based
 -- Approximate Nearest Neighbor Search Algorithms", PPoPP 2024).
--- Differences from DiskANN: one pass over the points, not two; rows begin empty, not random; the start is the first of
--- the order, which is the medoid only where the settings say so.
+-- Differences from DiskANN: one pass over the points or two, by the settings, where of two the first has alpha 1, as
+-- there; both go through the same order; rows begin empty, not random; the start is the first of the order, which is the
+-- medoid only where the settings say so.
 use Rattle.std.specs.Prelude.{ℕ, List, length}
 use Rattle.ann_defs.specs.Distance.{dim_of}
 use Rattle.graph_rows.specs.Index.{Contents, flat_contents}

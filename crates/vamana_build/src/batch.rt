@@ -6,7 +6,7 @@ ghost use Rattle.ann_defs.specs.BatchInsert.{last_row_of};
 ghost use Rattle.batch_insert.specs.Changes.{differing};
 ghost use Rattle.beam_search.specs.Serving.{Serves};
 ghost use Rattle.steal_pool.specs.Work.{AllServe};
-ghost use Rattle.vamana_build.specs.Builds.{build_of};
+ghost use Rattle.vamana_build.specs.Builds.{build_by};
 ghost use Rattle.vamana_build.specs.Settled.{AreSettled};
 ghost use Rattle.vamana_build.specs.Wanted.{new_blocks};
 
@@ -33,12 +33,12 @@ pub(crate) fn rows_changed<R: Threads + Sync, P: Rounds, G: Gate + Sync>(
     posts: &mut [Post<Scratch>],
     gate: &G,
 ) -> Result<ChangedRows, NoMemory>
-    requires settled { AreSettled rows.now.plan.now.points.now.vectors rows.now.plan.now.settings (row_in rows.now.graph.now.rows) counts.old }
+    requires settled { AreSettled (build_by rows.now.plan.now.points.now.vectors rows.now.plan.now.settings rows.now.alpha) (row_in rows.now.graph.now.rows) counts.old }
     requires posts { length posts.old ≡ P.count pool.old }
     requires serve { AllServe (Serves (length rows.now.plan.now.points.now.vectors) rows.now.plan.now.settings.beam) posts.old }
     requires some { 0 < length rows.now.batch.now }
-    ensures rows { IfOk result (λ c. c ≡ differing (row_in rows.now.graph.now.rows) (last_row_of (build_of rows.now.plan.now.points.now.vectors rows.now.plan.now.settings) rows.now.graph.now.rows rows.now.batch.now) (range_with_len 0 (length rows.now.plan.now.points.now.vectors))) }
-    ensures settled { IfOk result (λ _. AreSettled rows.now.plan.now.points.now.vectors rows.now.plan.now.settings (last_row_of (build_of rows.now.plan.now.points.now.vectors rows.now.plan.now.settings) rows.now.graph.now.rows rows.now.batch.now) counts.new) }
+    ensures rows { IfOk result (λ c. c ≡ differing (row_in rows.now.graph.now.rows) (last_row_of (build_by rows.now.plan.now.points.now.vectors rows.now.plan.now.settings rows.now.alpha) rows.now.graph.now.rows rows.now.batch.now) (range_with_len 0 (length rows.now.plan.now.points.now.vectors))) }
+    ensures settled { IfOk result (λ _. AreSettled (build_by rows.now.plan.now.points.now.vectors rows.now.plan.now.settings rows.now.alpha) (last_row_of (build_by rows.now.plan.now.points.now.vectors rows.now.plan.now.settings rows.now.alpha) rows.now.graph.now.rows rows.now.batch.now) counts.new) }
     ensures as_before { OnErr result (counts.new ≡ counts.old) }
     ensures serve { AllServe (Serves (length rows.now.plan.now.points.now.vectors) rows.now.plan.now.settings.beam) posts.new }
     ensures workers { P.count pool.new ≡ P.count pool.old }
@@ -65,16 +65,17 @@ fn merges_changed<R: Threads + Sync, P: Rounds, G: Gate + Sync>(
     gate: &G,
 ) -> Result<ChangedRows, NoMemory>
     requires ids { fresh.now.ids.now ≡ rows.now.batch.now }
-    requires blocks { fresh.now.blocks.now ≡ new_blocks (build_of rows.now.plan.now.points.now.vectors rows.now.plan.now.settings) rows.now.graph.now.rows rows.now.batch.now }
-    requires settled { AreSettled rows.now.plan.now.points.now.vectors rows.now.plan.now.settings (row_in rows.now.graph.now.rows) counts.now }
+    requires blocks { fresh.now.blocks.now ≡ new_blocks (build_by rows.now.plan.now.points.now.vectors rows.now.plan.now.settings rows.now.alpha) rows.now.graph.now.rows rows.now.batch.now }
+    requires settled { AreSettled (build_by rows.now.plan.now.points.now.vectors rows.now.plan.now.settings rows.now.alpha) (row_in rows.now.graph.now.rows) counts.now }
     requires posts { length posts.old ≡ P.count pool.old }
     requires serve { AllServe (Serves (length rows.now.plan.now.points.now.vectors) rows.now.plan.now.settings.beam) posts.old }
-    ensures rows { IfOk result (λ c. c ≡ differing (row_in rows.now.graph.now.rows) (last_row_of (build_of rows.now.plan.now.points.now.vectors rows.now.plan.now.settings) rows.now.graph.now.rows rows.now.batch.now) (range_with_len 0 (length rows.now.plan.now.points.now.vectors))) }
+    ensures rows { IfOk result (λ c. c ≡ differing (row_in rows.now.graph.now.rows) (last_row_of (build_by rows.now.plan.now.points.now.vectors rows.now.plan.now.settings rows.now.alpha) rows.now.graph.now.rows rows.now.batch.now) (range_with_len 0 (length rows.now.plan.now.points.now.vectors))) }
     ensures serve { AllServe (Serves (length rows.now.plan.now.points.now.vectors) rows.now.plan.now.settings.beam) posts.new }
     ensures workers { P.count pool.new ≡ P.count pool.old }
 {
     let merging = Merges {
         plan: rows.plan,
+        alpha: rows.alpha,
         batch: rows.batch,
         counts,
     };

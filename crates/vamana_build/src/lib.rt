@@ -7,8 +7,10 @@
 
 mod batch;
 mod change;
+mod factor;
 mod merges;
 mod new_rows;
+mod places;
 mod plan;
 mod posts;
 mod row;

@@ -24,6 +24,7 @@ pub struct Plan<'p> {
     pub ghost count: { (1 ≤ length points.now.vectors) × (length points.now.vectors ≤ MAX_POINTS) },
     pub ghost degree: { (1 ≤ settings.degree) × (settings.degree ≤ MAX_DEGREE) },
     pub ghost beam: { (1 ≤ settings.beam) × (settings.beam ≤ MAX_BEAM) },
+    pub ghost passes: { (1 ≤ settings.passes) × (settings.passes ≤ 2) },
     pub ghost words: { length points.now.vectors * (settings.degree + 1) ≤ MAX_WORDS },
     pub ghost ordered: { order.items ≡ order_of points.now.vectors settings },
     pub ghost whole: { length order.items ≡ length points.now.vectors },
@@ -45,6 +46,7 @@ impl<'p> Plan<'p> {
         requires degree { (1 ≤ settings.degree) × (settings.degree ≤ MAX_DEGREE) }
         requires beam { (1 ≤ settings.beam) × (settings.beam ≤ MAX_BEAM) }
         requires cap { IfSome settings.cap (λ cap. (1 ≤ cap) × (cap ≤ MAX_POINTS)) }
+        requires passes { (1 ≤ settings.passes) × (settings.passes ≤ 2) }
         requires words { length points.now.vectors * (settings.degree + 1) ≤ MAX_WORDS }
         ensures points { IfOk result (λ p. p.points.now ≡ points.now) }
         ensures settings { IfOk result (λ p. p.settings ≡ settings) }

@@ -17,8 +17,10 @@ pub struct VamanaSettings {
     pub degree: u32,
     /// The width of the search list, 1 to 1,024.
     pub beam: u32,
-    /// The factor of the prunes.
+    /// The factor of the prunes, in the last pass.
     pub alpha: Alpha,
     /// The greatest number of points in a batch, 1 to 4,194,304. None means a fiftieth of the points, rounded up.
     pub cap: Option<u32>,
+    /// How often all points are gone through, 1 or 2. In each pass but the last the factor of the prunes is 1.
+    pub passes: u32,
 }

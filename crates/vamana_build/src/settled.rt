@@ -6,7 +6,7 @@ ghost use Rattle.ann_defs.specs.Graph.{has, row_in};
 ghost use Rattle.ann_defs.specs.Ordered.{Ascends};
 ghost use Rattle.batch_insert.specs.Batch.{laid_over};
 ghost use Rattle.batch_insert.specs.Changes.{differing};
-ghost use Rattle.vamana_build.specs.Builds.{build_of};
+ghost use Rattle.vamana_build.specs.Builds.{build_by};
 ghost use Rattle.vamana_build.specs.Wanted.{new_blocks};
 ghost use Rattle.vamana_build.specs.Settled.{begins, laid_count, AreSettled};
 
@@ -33,10 +33,10 @@ pub(crate) fn count_of(batch: &[u32], counts: &[u8], id: u32, row: &[u32]) -> us
 /// added, and the count is that of the laid row; else it is a prune's, and all of it is counted.
 pub(crate) fn settle(rows: &NewRows, fresh: &FreshRows, changed: &ChangedRows, counts: &mut [u8])
     requires ids { fresh.now.ids.now ≡ rows.now.batch.now }
-    requires blocks { fresh.now.blocks.now ≡ new_blocks (build_of rows.now.plan.now.points.now.vectors rows.now.plan.now.settings) rows.now.graph.now.rows rows.now.batch.now }
-    requires changed { changed.now ≡ differing (row_in rows.now.graph.now.rows) (last_row_of (build_of rows.now.plan.now.points.now.vectors rows.now.plan.now.settings) rows.now.graph.now.rows rows.now.batch.now) (range_with_len 0 (length rows.now.plan.now.points.now.vectors)) }
-    requires settled { AreSettled rows.now.plan.now.points.now.vectors rows.now.plan.now.settings (row_in rows.now.graph.now.rows) counts.old }
-    ensures settled { AreSettled rows.now.plan.now.points.now.vectors rows.now.plan.now.settings (last_row_of (build_of rows.now.plan.now.points.now.vectors rows.now.plan.now.settings) rows.now.graph.now.rows rows.now.batch.now) counts.new }
+    requires blocks { fresh.now.blocks.now ≡ new_blocks (build_by rows.now.plan.now.points.now.vectors rows.now.plan.now.settings rows.now.alpha) rows.now.graph.now.rows rows.now.batch.now }
+    requires changed { changed.now ≡ differing (row_in rows.now.graph.now.rows) (last_row_of (build_by rows.now.plan.now.points.now.vectors rows.now.plan.now.settings rows.now.alpha) rows.now.graph.now.rows rows.now.batch.now) (range_with_len 0 (length rows.now.plan.now.points.now.vectors)) }
+    requires settled { AreSettled (build_by rows.now.plan.now.points.now.vectors rows.now.plan.now.settings rows.now.alpha) (row_in rows.now.graph.now.rows) counts.old }
+    ensures settled { AreSettled (build_by rows.now.plan.now.points.now.vectors rows.now.plan.now.settings rows.now.alpha) (last_row_of (build_by rows.now.plan.now.points.now.vectors rows.now.plan.now.settings rows.now.alpha) rows.now.graph.now.rows rows.now.batch.now) counts.new }
 {
     for j in 0..changed.len() {
         let id = changed.id(j);
@@ -50,9 +50,9 @@ pub(crate) fn settle(rows: &NewRows, fresh: &FreshRows, changed: &ChangedRows, c
 // The row of an id as the batch lays it.
 fn laid_row<'b>(rows: &'b NewRows, fresh: &'b FreshRows, id: u32) -> &'b [u32]
     requires ids { fresh.now.ids.now ≡ rows.now.batch.now }
-    requires blocks { fresh.now.blocks.now ≡ new_blocks (build_of rows.now.plan.now.points.now.vectors rows.now.plan.now.settings) rows.now.graph.now.rows rows.now.batch.now }
+    requires blocks { fresh.now.blocks.now ≡ new_blocks (build_by rows.now.plan.now.points.now.vectors rows.now.plan.now.settings rows.now.alpha) rows.now.graph.now.rows rows.now.batch.now }
     requires id { id < length rows.now.graph.now.rows }
-    ensures { result.now ≡ laid_over (row_in rows.now.graph.now.rows) (has rows.now.batch.now) (new_row_of (build_of rows.now.plan.now.points.now.vectors rows.now.plan.now.settings) rows.now.graph.now.rows) id }
+    ensures { result.now ≡ laid_over (row_in rows.now.graph.now.rows) (has rows.now.batch.now) (new_row_of (build_by rows.now.plan.now.points.now.vectors rows.now.plan.now.settings rows.now.alpha) rows.now.graph.now.rows) id }
 {
     if fresh.holds(id) {
         return fresh.row(id);

@@ -8,6 +8,7 @@ ghost use Rattle.vamana_build.specs.Changes.{change_at};
 ghost use Rattle.vamana_build.specs.VamanaIndex.{vamana_index};
 
 use crate::change::BatchChange;
+use crate::places::next_places;
 use crate::plan::Plan;
 use crate::posts::posts_for;
 use crate::step::change_of;
@@ -31,7 +32,7 @@ pub struct Vamana<'p> {
     // How many ids at the front of each row one prune left together: a later one doesn't test these against each other.
     settled: Vec<u8>,
     batch: u32,
-    // The batches after the next one, and the places of the next one in the order.
+    // The batches of a pass after the next one, and the places of the next one in the order.
     batches: Batches,
     next: Option<(u32, u32)>,
     posts: Vec<Post<Scratch>>,
@@ -42,7 +43,7 @@ pub struct Vamana<'p> {
 impl<'p> Model for Vamana<'p> {
     ghost use Rattle.std.specs.Prelude.{◌≡◌, [], length};
     ghost use Rattle.ann_defs.specs.Graph.{row_in};
-    ghost use Rattle.vamana_build.specs.Builds.{rows_at};
+    ghost use Rattle.vamana_build.specs.Builds.{build_at, rows_at};
     ghost use Rattle.vamana_build.specs.Building.{Building, IsBuilt};
     ghost use Rattle.vamana_build.specs.Settled.{AreSettled};
 
@@ -50,7 +51,7 @@ impl<'p> Model for Vamana<'p> {
 
     ghost view = { λ v. record { points = v.plan.now.points.now.vectors; settings = v.plan.now.settings; batch = v.batch; workers = length v.posts.items } };
 
-    ghost invariant = { λ v. IsBuilt v.plan.now.points.now.vectors v.plan.now.settings v.batch v.graph v.batches v.next v.posts.items × (v.upper.items ≡ []) × AreSettled v.plan.now.points.now.vectors v.plan.now.settings (row_in (rows_at v.plan.now.points.now.vectors v.plan.now.settings v.batch)) v.settled.items };
+    ghost invariant = { λ v. IsBuilt v.plan.now.points.now.vectors v.plan.now.settings v.batch v.graph v.batches v.next v.posts.items × (v.upper.items ≡ []) × AreSettled (build_at v.plan.now.points.now.vectors v.plan.now.settings v.batch) (row_in (rows_at v.plan.now.points.now.vectors v.plan.now.settings v.batch)) v.settled.items };
 }
 
 impl<'p> Vamana<'p> {
@@ -94,12 +95,12 @@ impl<'p> Vamana<'p> {
         self.batch
     }
 
-    /// How many batches there are.
+    /// How many batches there are, in all passes.
     pub fn total(&self) -> u32
         ensures value { result ≡ batches_of self.now.points self.now.settings }
         ensures some { 1 ≤ result }
     {
-        self.batches.total()
+        self.plan.settings.passes * self.batches.total()
     }
 
     /// Puts the next batch in, and returns the rows that it changed, or None where all batches are in.
@@ -128,6 +129,8 @@ impl<'p> Vamana<'p> {
         let Some((from, to)) = self.next else {
             return Ok(None);
         };
+        let pass = self.batches.total();
+        let total = self.plan.settings.passes * pass;
         gate.batch(self.batch + 1);
         let change = change_of(
             rt,
@@ -135,6 +138,7 @@ impl<'p> Vamana<'p> {
             pool,
             self.plan,
             self.batch,
+            pass,
             from,
             to,
             &self.graph,
@@ -144,7 +148,7 @@ impl<'p> Vamana<'p> {
         )?;
         change.put_into(&mut self.graph);
         self.batch += 1;
-        self.next = self.batches.next();
+        self.next = next_places(self.plan, &mut self.batches, self.batch, total);
         Ok(Some(change))
     }
 

@@ -5,14 +5,14 @@ use Rattle.std.proofs.lemmas.List.{length-map}
 use Rattle.ann_defs.specs.BatchInsert.{new_row_of}
 use Rattle.batch_insert.specs.Padded.{padded}
 use Rattle.batch_insert.proofs.Padding.{blocks_whole}
-use Rattle.vamana_build.specs.Builds.{build_of}
+use Rattle.vamana_build.specs.Builds.{build_by}
 use Rattle.vamana_build.proofs.NewRowFacts.{new_row_short}
 use Rattle.vamana_build.proofs.batch.rows_changed.Goals as goal
 
 pub invariant_of-fresh : goal.invariant_of-fresh
 invariant_of-fresh g c =
     let w = c.args.rows.now in
-    let b = build_of w.plan.now.points.now.vectors w.plan.now.settings in
+    let b = build_by w.plan.now.points.now.vectors w.plan.now.settings w.alpha in
     let rows = w.graph.now.rows in
     let right = c.in_ok-blocks.ensures.blocks in
     record {

@@ -23,4 +23,4 @@ returns-clause-row c =
     let visited = visited_of points (row_in rows) (point points p) s.beam (start_of points s ∷ []) in
     let e = seen points (row_in rows) s.beam c.start.result (start_of points s) c.at.result.now (point points p) c.search.new.scratch c.args.scratch.now c.search.ensures.walk c.at.ensures.value c.start.ensures.value in
     let same = λ (u : ℕ). c.candidates-found.ensures.gathered.members u ∙ (λ i. has (without p (ids_of (e i) ++ c.row.ensures i)) u) in
-    c.prune.ensures.row ∙ prune_alike points p (ids_of c.candidates-found.result.now) (without p (ids_of visited ++ row_in rows p)) s.alpha.num s.alpha.den s.degree same
+    c.prune.ensures.row ∙ prune_alike points p (ids_of c.candidates-found.result.now) (without p (ids_of visited ++ row_in rows p)) c.args.alpha.num c.args.alpha.den s.degree same

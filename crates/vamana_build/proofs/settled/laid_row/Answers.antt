@@ -2,7 +2,7 @@ use Rattle.std.proofs.Common.{◌≡◌, ◌∙◌, true, cond, sym, ap, List, �
 use Rattle.ann_defs.specs.Graph.{has, row_in}
 use Rattle.ann_defs.specs.BatchInsert.{new_row_of}
 use Rattle.batch_insert.specs.Padded.{row_by_id}
-use Rattle.vamana_build.specs.Builds.{build_of}
+use Rattle.vamana_build.specs.Builds.{build_by}
 use Rattle.vamana_build.proofs.Plans.{start_below}
 use Rattle.vamana_build.proofs.NewRowFacts.{fresh_is}
 use Rattle.vamana_build.proofs.settled.laid_row.Goals as goal
@@ -10,7 +10,7 @@ use Rattle.vamana_build.proofs.settled.laid_row.Goals as goal
 pub returns-then-holds : goal.returns-then-holds
 returns-then-holds c =
     let w = c.args.rows.now in
-    let b = build_of w.plan.now.points.now.vectors w.plan.now.settings in
+    let b = build_by w.plan.now.points.now.vectors w.plan.now.settings w.alpha in
     let at : has w.batch.now c.args.id ≡ true = ap (λ (ids : List ℕ). has ids c.args.id) (sym c.requires.ids) ∙ sym c.holds.ensures ∙ c.if-holds.true in
     c.row.ensures
     ∙ ap (λ (ids : List ℕ). row_by_id ids c.args.fresh.now.blocks.now c.args.id) c.requires.ids

@@ -26,18 +26,16 @@ pub merged_row-requires-clause-settled : goal.merged_row-requires-clause-settled
 merged_row-requires-clause-settled c κs =
     let m = c.args.self.now in
     let points = m.plan.now.points.now.vectors in
-    let s = m.plan.now.settings in
     let row = c.args.row.now in
     let count = laid_count m.batch.now m.counts.now c.args.target row in
-    let both = and_both (nat_le count (length row)) (are_apart points s.alpha.num s.alpha.den c.args.target (take count row)) c.requires.known in
+    let both = and_both (nat_le count (length row)) (are_apart points m.alpha.num m.alpha.den c.args.target (take count row)) c.requires.known in
     subst (λ (k : ℕ). k ≤ length row) (sym c.count_of-settled.ensures.value) (leb-true count (length row) both.0)
 
 pub merged_row-requires-clause-apart : goal.merged_row-requires-clause-apart
 merged_row-requires-clause-apart c κs =
     let m = c.args.self.now in
     let points = m.plan.now.points.now.vectors in
-    let s = m.plan.now.settings in
     let row = c.args.row.now in
     let count = laid_count m.batch.now m.counts.now c.args.target row in
-    let both = and_both (nat_le count (length row)) (are_apart points s.alpha.num s.alpha.den c.args.target (take count row)) c.requires.known in
-    subst (λ (k : ℕ). are_apart points s.alpha.num s.alpha.den c.args.target (take k row) ≡ true) (sym c.count_of-settled.ensures.value) both.1
+    let both = and_both (nat_le count (length row)) (are_apart points m.alpha.num m.alpha.den c.args.target (take count row)) c.requires.known in
+    subst (λ (k : ℕ). are_apart points m.alpha.num m.alpha.den c.args.target (take k row) ≡ true) (sym c.count_of-settled.ensures.value) both.1

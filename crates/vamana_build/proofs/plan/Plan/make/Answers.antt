@@ -9,6 +9,7 @@ invariant_of-result c = record {
   count = (subst (λ (n : ℕ). 1 ≤ n) c.count.ensures.value c.count.ensures.some, subst (λ (n : ℕ). n ≤ 4194304) c.count.ensures.value c.count.ensures.bound);
   degree = c.requires.degree;
   beam = c.requires.beam;
+  passes = c.requires.passes;
   words = c.requires.words;
   ordered = c.in_ok-order.ensures.order;
   whole = c.in_ok-order.ensures.count;

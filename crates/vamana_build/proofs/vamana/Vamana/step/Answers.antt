@@ -1,10 +1,10 @@
-use Rattle.std.proofs.Common.{◌≡◌, ◌∙◌, ◌+◌, ◌++◌, ◌<◌, ℕ, List, length, take, drop, sym, ap, subst, arith}
+use Rattle.std.proofs.Common.{◌≡◌, ◌∙◌, ◌+◌, ◌*◌, ◌++◌, ◌<◌, ℕ, List, length, take, drop, sym, ap, subst, arith}
 use Rattle.std.proofs.lemmas.List.{take_at}
 use Rattle.ann_defs.specs.Graph.{row_in}
 use Rattle.ann_defs.specs.declared.limits.TheConstants.{MAX_POINTS}
 use Rattle.beam_search.specs.Room.{Room}
 use Rattle.steal_pool.specs.declared.post.Post.{Post}
-use Rattle.vamana_build.specs.Builds.{batches_of, rows_at}
+use Rattle.vamana_build.specs.Builds.{batches_of, build_at, rows_at}
 use Rattle.vamana_build.specs.Settled.{AreSettled}
 use Rattle.vamana_build.specs.Building.{Building, IsBuilt}
 use Rattle.vamana_build.specs.Changes.{change_at}
@@ -15,13 +15,13 @@ use Rattle.vamana_build.proofs.vamana.Vamana.step.Goals as goal
 pub overflow_add-self-inside : goal.overflow_add-self-inside
 overflow_add-self-inside g c =
     let v = c.self.inside in
-    let less = few_left v.plan.now.points.now.vectors v.plan.now.settings v.batch MAX_POINTS v.next _ c.self.invariant.0.next_is c.in-Some.is c.self.invariant.0.few in
+    let less = few_left v.plan.now.points.now.vectors v.plan.now.settings v.batch (2 * MAX_POINTS) v.next _ c.self.invariant.0.next_is c.in-Some.is c.self.invariant.0.few in
     omega (arith, less)
 
 pub change_of-requires-clause-few : goal.change_of-requires-clause-few
 change_of-requires-clause-few g c κs within =
     let v = c.self.inside in
-    few_left v.plan.now.points.now.vectors v.plan.now.settings v.batch MAX_POINTS v.next _ c.self.invariant.0.next_is c.in-Some.is c.self.invariant.0.few
+    few_left v.plan.now.points.now.vectors v.plan.now.settings v.batch (2 * MAX_POINTS) v.next _ c.self.invariant.0.next_is c.in-Some.is c.self.invariant.0.few
 
 pub change_of-requires-clause-left : goal.change_of-requires-clause-left
 change_of-requires-clause-left g c κs within =
@@ -41,16 +41,16 @@ invariant_of-self-2 g c =
     let plan = v.plan.now in
     let points = plan.points.now.vectors in
     let s = plan.settings in
-    let next = c.next-self-inside in
+    let next = c.next_places-self-inside in
     let posts : List (Post Room) = c.change_of.new.posts in
     let whole = kept v.posts.len v.posts.items posts (c.change_of.auto.posts ∙ c.as_mut_slice-2.ensures.len) in
     let count : length posts ≡ length v.posts.items = c.change_of.auto.posts ∙ ap length c.as_mut_slice-2.ensures.value in
-    let built = stepped points s v.batch v.graph c.put_into.new.graph v.batches next.new.self v.next next.result v.posts.items posts _ c.in_ok-change.change (start_below plan) (sym (ap length plan.ordered) ∙ plan.whole) c.self.invariant.0 c.in-Some.is c.in_ok-change.ensures.change c.put_into.ensures
-    (record { counted = next.ensures.counted; bounds = next.ensures.bounds; fits = next.ensures.some; given = next.ensures.given; same = next.ensures.same })
+    let built = stepped points s v.batch v.graph c.put_into.new.graph v.batches next.new.batches v.next next.result v.posts.items posts _ c.in_ok-change.change (start_below plan) (sym (ap length plan.ordered) ∙ plan.whole) c.self.invariant.0 c.in-Some.is c.in_ok-change.ensures.change c.put_into.ensures
+    next.ensures.next next.ensures.fits next.ensures.given
     c.in_ok-change.ensures.serve count in (
-      subst (λ (ps : List (Post Room)). IsBuilt points s (v.batch + 1) c.put_into.new.graph next.new.self next.result ps) (sym whole) built,
+      subst (λ (ps : List (Post Room)). IsBuilt points s (v.batch + 1) c.put_into.new.graph next.new.batches next.result ps) (sym whole) built,
       c.self.invariant.1,
-      subst (AreSettled points s (row_in (rows_at points s (v.batch + 1)))) (sym (same_counts v.settled.len v.settled.items c.change_of.new.counts (c.change_of.auto.counts ∙ c.as_mut_slice.ensures.len))) c.in_ok-change.ensures.settled,
+      subst (AreSettled (build_at points s (v.batch + 1)) (row_in (rows_at points s (v.batch + 1)))) (sym (same_counts v.settled.len v.settled.items c.change_of.new.counts (c.change_of.auto.counts ∙ c.as_mut_slice.ensures.len))) c.in_ok-change.ensures.settled,
     )
 
 pub returns-clause-some : goal.returns-clause-some
