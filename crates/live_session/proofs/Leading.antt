@@ -41,7 +41,7 @@ module _ (p : Plan) where
       subst (LeadsFrom (course_of p) k) (sym e) (record {
         batch = λ _. k + 1;
         within = omega (arith, left);
-        next = change_leads points s (start_below p) k (sym (ap length p.ordered) ∙ p.whole) left;
+        next = change_leads points s (start_below p) k (sym (ap length p.ordered) ∙ p.whole);
       })
 
 -- no answer has more than k ids

@@ -126,7 +126,7 @@ fn eight_callers_beside_a_build_are_never_refused(rt: HostRuntime) -> Result<(),
     let queries = made_points(alloc, QUERIES, 2, 2, 0)?;
     assert!(rt; points.count() == 2000);
     assert!(rt; queries.dim() == points.dim());
-    let plan = Plan::make(alloc, &points, plain(8, 16, 20))?;
+    let plan = Plan::make(alloc, &points, plain(8, 16, 20, 1))?;
     let (mut build, mut publisher, callers) = opened(&rt, alloc, &plan, CALLERS)?;
     let seats = asked(
         &rt,

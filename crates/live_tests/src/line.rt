@@ -13,8 +13,8 @@ pub(crate) fn line(alloc: Global) -> Result<Points, NoMemory> {
 }
 
 // In file order from the first point, with factor 1.
-pub(crate) fn plain(degree: u32, beam: u32, cap: u32) -> VamanaSettings
-    ensures { (result.degree ≡ degree) × (result.beam ≡ beam) × (result.cap ≡ Some cap) }
+pub(crate) fn plain(degree: u32, beam: u32, cap: u32, passes: u32) -> VamanaSettings
+    ensures { (result.degree ≡ degree) × (result.beam ≡ beam) × (result.cap ≡ Some cap) × (result.passes ≡ passes) }
 {
     VamanaSettings {
         order: OrderKind::File,
@@ -24,6 +24,7 @@ pub(crate) fn plain(degree: u32, beam: u32, cap: u32) -> VamanaSettings
         beam,
         alpha: Alpha { num: 1, den: 1 },
         cap: Some(cap),
+        passes,
     }
 }
 

@@ -104,7 +104,7 @@ fn a_caller_is_answered_in_the_batch_that_it_was_told_of(rt: HostRuntime) -> Res
     let points = line(alloc)?;
     assert!(rt; points.count() == 4);
     assert!(rt; points.dim() == 1);
-    let plan = Plan::make(alloc, &points, plain(2, 4, 4))?;
+    let plan = Plan::make(alloc, &points, plain(2, 4, 4, 1))?;
     let (mut build, mut publisher, callers) = opened(&rt, alloc, &plan, 1)?;
     let mut seat = seated(&rt, alloc, &plan, callers);
     told_of_the_last(&rt, alloc, &plan, &mut build, &mut publisher, &mut seat);
@@ -130,7 +130,7 @@ fn queries_after_the_end_are_refused(rt: HostRuntime) -> Result<(), Fail> {
     let points = line(alloc)?;
     assert!(rt; points.count() == 4);
     assert!(rt; points.dim() == 1);
-    let plan = Plan::make(alloc, &points, plain(2, 4, 4))?;
+    let plan = Plan::make(alloc, &points, plain(2, 4, 4, 1))?;
     let (_build, publisher, callers) = opened(&rt, alloc, &plan, 1)?;
     let mut seat = seated(&rt, alloc, &plan, callers);
     assert_answer(&rt, &plan, &mut seat, 12, 1, near(144, 0));
@@ -181,10 +181,48 @@ fn a_caller_that_is_not_told_never_goes_back(rt: HostRuntime) -> Result<(), Fail
     let points = line(alloc)?;
     assert!(rt; points.count() == 4);
     assert!(rt; points.dim() == 1);
-    let plan = Plan::make(alloc, &points, plain(2, 4, 4))?;
+    let plan = Plan::make(alloc, &points, plain(2, 4, 4, 1))?;
     let (mut build, mut publisher, callers) = opened(&rt, alloc, &plan, 1)?;
     let mut seat = seated(&rt, alloc, &plan, callers);
     told_of_none(&rt, alloc, &plan, &mut build, &mut publisher, &mut seat);
+    publisher.end(&rt);
+    Ok(())
+}
+
+// Batches 2 to 6 of the line are published, which has three in each of two passes, and the caller is told of the sixth.
+fn told_of_the_second_pass<'p, R: Threads + Wait + Sync + Abort>(
+    rt: &R,
+    alloc: Global,
+    plan: &Plan<'_>,
+    build: &mut Vamana<'_>,
+    publisher: &mut Publisher<'p>,
+    seat: &mut Seat<'p>,
+)
+    requires dim { dim_of plan.now.points.now.vectors ≡ 1 }
+    requires step { AreInStep (course_of plan.now) build.old publisher.old }
+    requires can { CanAsk (course_of plan.now) 4 1 seat.old }
+{
+    assert_answer(rt, plan, seat, 12, 1, near(144, 0));
+    let mut last = published(rt, alloc, plan, build, publisher);
+    for _ in 2..build.total() {
+        last = published(rt, alloc, plan, build, publisher);
+    }
+    assert_eq!(rt; last.batch(), 6);
+    seat.told(plan, last, 4, 1);
+    assert_answer(rt, plan, seat, 12, 6, near(4, 1));
+    assert_answer(rt, plan, seat, 30, 6, near(0, 3));
+}
+
+#[test]
+fn a_second_pass_is_published_batch_by_batch(rt: HostRuntime) -> Result<(), Fail> {
+    let alloc = rt.alloc();
+    let points = line(alloc)?;
+    assert!(rt; points.count() == 4);
+    assert!(rt; points.dim() == 1);
+    let plan = Plan::make(alloc, &points, plain(2, 4, 4, 2))?;
+    let (mut build, mut publisher, callers) = opened(&rt, alloc, &plan, 1)?;
+    let mut seat = seated(&rt, alloc, &plan, callers);
+    told_of_the_second_pass(&rt, alloc, &plan, &mut build, &mut publisher, &mut seat);
     publisher.end(&rt);
     Ok(())
 }

@@ -13,8 +13,9 @@ use Rattle.ann_defs.proofs.GoodGraphs.{graph_from_good}
 use Rattle.ann_defs.proofs.Members.{all_from_has}
 use Rattle.beam_search.specs.Room.{Room, after_search}
 use Rattle.graph_rows.specs.Flat.{Flat, row_at}
-use Rattle.vamana_build.specs.Builds.{start_of}
+use Rattle.vamana_build.specs.Builds.{start_of, pass_of}
 use Rattle.vamana_build.specs.declared.plan.Plan.{Plan}
+use Rattle.vamana_build.proofs.NextBatch.{passes_some}
 use Rattle.vamana_build.proofs.Plans.{start_below}
 use Rattle.vamana_build.proofs.Stepping.{rows_good}
 use Rattle.versions.specs.Course.{answer_at, course_of, graph_after, total_of}
@@ -67,4 +68,6 @@ some_batches n cap some =
 
 pub total_some : (p : Plan) → 1 ≤ total_of (course_of p)
 unfolding total_of
-total_some p = let n = p.count.0 in some_batches (length p.points.now.vectors) _ n
+total_some p =
+    let n = p.count.0 in
+    passes_some p.settings.passes (pass_of p.points.now.vectors p.settings) p.passes.0 (some_batches (length p.points.now.vectors) _ n)

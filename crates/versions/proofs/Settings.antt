@@ -23,5 +23,5 @@ cap_same None (Some y) h = absurd (true≢false (sym h))
 cap_same (Some x) None h = absurd (true≢false (sym h))
 cap_same (Some x) (Some y) h = ap Some (eqb-true x y h)
 
-pub settings_same : (a b : VamanaSettings) → a.order ≡ b.order → a.start ≡ b.start → a.alpha ≡ b.alpha → a.cap ≡ b.cap → a.seed ≡ b.seed → a.degree ≡ b.degree → a.beam ≡ b.beam → a ≡ b
-settings_same a b order start alpha cap seed degree beam = λ i. record { order = order i; start = start i; seed = seed i; degree = degree i; beam = beam i; alpha = alpha i; cap = cap i }
+pub settings_same : (a b : VamanaSettings) → a.order ≡ b.order → a.start ≡ b.start → a.alpha ≡ b.alpha → a.cap ≡ b.cap → a.seed ≡ b.seed → a.degree ≡ b.degree → a.beam ≡ b.beam → a.passes ≡ b.passes → a ≡ b
+settings_same a b order start alpha cap seed degree beam passes = λ i. record { order = order i; start = start i; seed = seed i; degree = degree i; beam = beam i; alpha = alpha i; cap = cap i; passes = passes i }

@@ -32,6 +32,9 @@ fn are_same_settings(a: VamanaSettings, b: VamanaSettings) -> bool
     if a.degree != b.degree {
         return false;
     }
+    if a.passes != b.passes {
+        return false;
+    }
     a.beam == b.beam
 }
 

@@ -9,4 +9,4 @@ returns c e =
     let alpha : c.args.a.alpha ≡ c.args.b.alpha = c.is_same_factor.ensures c.if-not-is_same_factor.false in
     let cap : c.args.a.cap ≡ c.args.b.cap = cap_same _ _ (search rules) in
     let beam : c.args.a.beam ≡ c.args.b.beam = search rules in
-    settings_same c.args.a c.args.b order start alpha cap c.if-a-b.false c.if-a-b-2.false beam
+    settings_same c.args.a c.args.b order start alpha cap c.if-a-b.false c.if-a-b-2.false beam c.if-a-b-3.false
