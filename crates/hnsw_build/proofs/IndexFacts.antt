@@ -157,5 +157,5 @@ well_formed p wide narrow =
       upper = subst (λ (ls : List (List (ℕ × List ℕ))). AreFurtherLayers (start_of points s levels) s.degree (λ v. nat_lt v n) (drop 1 ls)) (sym all)
           (all_further points s levels is T 1 top (λ v. nat_lt v n) (omega arith) (omega arith)
           (λ v h. sym (ap (λ (f : ℕ → Bool). f v) held) ∙ held_down levels 0 1 v (omega arith) h));
-      stamp = refl;
+      stamp = tt;
     }

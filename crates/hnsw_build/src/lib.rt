@@ -26,6 +26,3 @@ pub use hnsw::Hnsw;
 pub use laws::layers_stay_good;
 pub use plan::HnswPlan;
 pub use settings::HnswSettings;
-
-#[cfg(test)]
-mod tests;

@@ -12,8 +12,8 @@ use steal_pool::SerialRounds;
 use vamana_build::{Alpha, BatchChange, OrderKind, Plan, StartKind, Vamana, VamanaSettings};
 
 // In file order from the first point, rows of at most 2, beam 4 and factor 1.
-fn small(cap: u32) -> VamanaSettings
-    ensures { (result.degree ≡ 2) × (result.beam ≡ 4) × (result.cap ≡ Some cap) }
+fn small(cap: u32, passes: u32) -> VamanaSettings
+    ensures { (result.degree ≡ 2) × (result.beam ≡ 4) × (result.cap ≡ Some cap) × (result.passes ≡ passes) }
 {
     VamanaSettings {
         order: OrderKind::File,
@@ -23,6 +23,7 @@ fn small(cap: u32) -> VamanaSettings
         beam: 4,
         alpha: Alpha { num: 1, den: 1 },
         cap: Some(cap),
+        passes,
     }
 }
 
@@ -90,7 +91,7 @@ fn three_batches_and_then_none(rt: HostRuntime) -> Result<(), Fail> {
     let alloc = rt.alloc();
     let points = line(alloc)?;
     assert!(rt; points.count() == 4);
-    let plan = Plan::make(alloc, &points, small(4))?;
+    let plan = Plan::make(alloc, &points, small(4, 1))?;
     let mut build = Vamana::new(alloc, &plan, 1)?;
     assert_crosses_threads(&plan, &build);
     assert!(rt; build.total() == 3);
@@ -105,7 +106,7 @@ fn batches_of_one_see_each_other(rt: HostRuntime) -> Result<(), Fail> {
     let alloc = rt.alloc();
     let points = line(alloc)?;
     assert!(rt; points.count() == 4);
-    let plan = Plan::make(alloc, &points, small(1))?;
+    let plan = Plan::make(alloc, &points, small(1, 1))?;
     let mut build = Vamana::new(alloc, &plan, 1)?;
     assert!(rt; next_three(&rt, alloc, &mut build)? == [1, 2, 3]);
     assert!(rt; next_batch(&rt, alloc, &mut build)? == 4);
@@ -150,12 +151,46 @@ fn a_change_holds_the_rows_that_differ(rt: HostRuntime) -> Result<(), Fail> {
     let alloc = rt.alloc();
     let points = line(alloc)?;
     assert!(rt; points.count() == 4);
-    let plan = Plan::make(alloc, &points, small(4))?;
+    let plan = Plan::make(alloc, &points, small(4, 1))?;
     let mut build = Vamana::new(alloc, &plan, 1)?;
     let mut copy = FlatGraph::new(alloc, 4, 2)?;
     assert!(rt; puts(&rt, alloc, &mut build, 0, &mut copy)?);
     assert!(rt; puts(&rt, alloc, &mut build, 2, &mut copy)?);
     assert!(rt; puts(&rt, alloc, &mut build, 3, &mut copy)?);
     assert_rows(&rt, &copy, [&[1], &[0, 2], &[1], &[1]]);
+    Ok(())
+}
+
+// How many rows each batch of two passes changes.
+const CHANGED: [u32; 6] = [0, 2, 3, 0, 0, 2];
+
+// Puts all batches in, and asserts how many rows each changes. They are put into the copy.
+fn put_all<R: Threads + Sync + Abort>(
+    rt: &R,
+    alloc: Global,
+    build: &mut Vamana,
+    copy: &mut FlatGraph,
+) -> Result<(), NoMemory>
+    requires { build.old.workers ≡ 1 }
+    ensures { build.new.workers ≡ 1 }
+{
+    for rows in CHANGED {
+        assert!(rt; puts(rt, alloc, build, rows, copy)?);
+    }
+    Ok(())
+}
+
+#[test]
+fn a_second_pass_goes_on_from_the_rows_of_the_first(rt: HostRuntime) -> Result<(), Fail> {
+    let alloc = rt.alloc();
+    let points = line(alloc)?;
+    assert!(rt; points.count() == 4);
+    let plan = Plan::make(alloc, &points, small(4, 2))?;
+    let mut build = Vamana::new(alloc, &plan, 1)?;
+    let mut copy = FlatGraph::new(alloc, 4, 2)?;
+    assert!(rt; build.total() == 6);
+    put_all(&rt, alloc, &mut build, &mut copy)?;
+    assert!(rt; next_batch(&rt, alloc, &mut build)? == 0);
+    assert_rows(&rt, &copy, [&[1], &[0, 2], &[1, 3], &[2]]);
     Ok(())
 }

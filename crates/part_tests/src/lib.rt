@@ -12,9 +12,13 @@ mod building;
 #[cfg(test)]
 mod counts;
 #[cfg(test)]
+mod digests;
+#[cfg(test)]
 mod distance;
 #[cfg(test)]
 mod folders;
+#[cfg(test)]
+mod layers;
 #[cfg(test)]
 mod line;
 #[cfg(test)]
