@@ -1,12 +1,13 @@
 -- The index that settings ask for. No number of workers and no pool is among what it depends on.
 use Rattle.std.specs.Prelude.{ℕ, ◌+◌, ◌*◌, ◌≤◌, max, List, [], length, replicate, slice_index, IfSome}
 use Rattle.std.specs.List.{fold, range_with_len}
-use Rattle.ann_defs.specs.Distance.{dim_of}
-use Rattle.ann_defs.specs.BatchInsert.{Build, cap_of, total_of, graph_after}
+use Rattle.ann_defs.specs.Distance.{PointSet, dim_of}
+use Rattle.ann_defs.specs.BatchInsert.{Build, cap_of, batches_in, graph_after}
 use Rattle.ann_defs.specs.declared.limits.TheConstants.{MAX_BEAM, MAX_DEGREE, MAX_POINTS, MAX_WORKERS}
 use Rattle.ann_defs.specs.declared.kinds.Kind.{Kind}
 use Rattle.ann_defs.specs.declared.kinds.Kind.TheVariants.{Vamana, Hnsw, Nnd}
 use Rattle.graph_rows.specs.Index.{Contents, flat_contents}
+use Rattle.graph_rows.specs.Stamps.{stamped}
 use Rattle.seeded_order.specs.Order.{insertion_order}
 use Rattle.seeded_order.specs.Levels.{levels_of}
 use Rattle.hnsw_build.specs.Layering.{words_in}
@@ -18,6 +19,7 @@ use Rattle.nn_descent.specs.SearchGraph.{graph_rows}
 use Rattle.nn_descent.specs.NndIndex.{start_of, improved}
 use Rattle.command_options.specs.declared.settings.Settings.{Settings}
 use Rattle.command_options.specs.Forms.{greatest_degree}
+use Rattle.index_build.specs.Stamping.{stamp_for}
 
 -- settings that a build may have
 pub record AreForBuild (o : Settings) : Type 0 where
@@ -32,6 +34,8 @@ pub record AreForBuild (o : Settings) : Type 0 where
   pub ordered : o.den ≤ o.num
   pub num : o.num ≤ 1000
   pub cap : IfSome o.cap (λ cap. (1 ≤ cap) × (cap ≤ MAX_POINTS))
+  pub some_pass : 1 ≤ o.passes
+  pub passes : o.passes ≤ 2
   pub some_bit : 1 ≤ o.bits
   pub bits : o.bits ≤ 8
   pub max_level : o.max_level ≤ 15
@@ -42,6 +46,8 @@ pub record AreForBuild (o : Settings) : Type 0 where
   pub two_in_a_leaf : 2 ≤ o.leaf
   pub leaf : o.leaf ≤ 1024
   pub rounds : o.rounds ≤ 64
+  pub some_format : 1 ≤ o.format
+  pub format : o.format ≤ 2
 
 -- the order of insertion of a Vamana build, and the start of its searches
 abbrev pub vamana_order : List (List ℕ) → Settings → List ℕ
@@ -50,17 +56,17 @@ vamana_order X o = insertion_order X o.order o.start o.seed
 abbrev pub vamana_start : List (List ℕ) → Settings → ℕ
 vamana_start X o = slice_index (vamana_order X o) 0
 
--- how many batches it has
+-- how many batches it has in all passes
 unfoldable pub vamana_batches : List (List ℕ) → Settings → ℕ
-vamana_batches X o = total_of (length X) (cap_of (length X) o.cap)
+vamana_batches X o = batches_in o.passes (length X) (cap_of (length X) o.cap)
 
 -- its rows after v batches
 unfoldable pub vamana_rows : List (List ℕ) → Settings → ℕ → List (List ℕ)
 vamana_rows X o v =
-    let b : Build = record { points = X; start = vamana_start X o; beam = o.beam; num = o.num; den = o.den; degree = o.degree; passes = 1 } in
+    let b : Build = record { points = X; start = vamana_start X o; beam = o.beam; num = o.num; den = o.den; degree = o.degree; passes = o.passes } in
     graph_after b (vamana_order X o) (cap_of (length X) o.cap) v
 
--- the Vamana index of a point set: the order, start, seed, degree, beam, alpha and cap of the settings decide it
+-- the Vamana index of a point set: the order, start, seed, degree, beam, alpha, cap and passes of the settings decide it
 unfoldable pub vamana_of : List (List ℕ) → Settings → Contents
 vamana_of X o = flat_contents 1 (length X) (dim_of X) o.degree (vamana_start X o) (vamana_rows X o (vamana_batches X o))
 
@@ -86,15 +92,15 @@ lists_for X o =
 unfoldable pub nnd_of : List (List ℕ) → Settings → Contents
 nnd_of X o = flat_contents 3 (length X) (dim_of X) o.degree (start_of X o.start) (graph_rows X (lists_for X o) o.num o.den o.degree)
 
--- the index of each kind
+-- the index of each kind, of the vectors of a point set, with no stamp
 abbrev pub index_by : Kind → List (List ℕ) → Settings → Contents
 index_by Vamana X o = vamana_of X o
 index_by Hnsw X o = hnsw_of X o
 index_by Nnd X o = nnd_of X o
 
--- the index that a build of a point set with these settings must give
-unfoldable pub index_of : List (List ℕ) → Settings → Contents
-index_of X o = index_by o.kind X o
+-- the index that a build of a point set with these settings must give, with the stamp of its format
+unfoldable pub index_of : PointSet → Settings → Contents
+index_of X o = stamped (stamp_for X o) (index_by o.kind X.vectors o)
 
 -- the words that the rows of so many points take in a Vamana index
 abbrev pub vamana_words : ℕ → Settings → ℕ

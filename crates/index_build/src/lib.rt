@@ -9,8 +9,10 @@ mod by_kind;
 mod hnsw;
 mod limits;
 mod nnd;
+mod stamp;
 mod vamana;
 
 pub use by_kind::index_for;
 pub use limits::{check_answers, check_cells, check_words, pool_for};
+pub use stamp::{element_code, stamp_for};
 pub use vamana::{settings_for_vamana, words_for_vamana};

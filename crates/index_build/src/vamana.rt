@@ -31,6 +31,7 @@ pub fn settings_for_vamana(options: &Settings) -> VamanaSettings
     ensures num { result.alpha.num ≡ options.now.num }
     ensures den { result.alpha.den ≡ options.now.den }
     ensures cap { result.cap ≡ options.now.cap }
+    ensures passes { result.passes ≡ options.now.passes }
 {
     VamanaSettings {
         order: options.order,
@@ -43,6 +44,7 @@ pub fn settings_for_vamana(options: &Settings) -> VamanaSettings
             den: options.den,
         },
         cap: options.cap,
+        passes: options.passes,
     }
 }
 

@@ -25,4 +25,4 @@ returns-clause-index g c =
     (points_of_build _ _ c.loop-batch.invariant.so_far ∙ points_of_build _ _ c.in_ok-builder.ensures ∙ vectors_of _ _ c.in_ok-plan.ensures.points)
     (same_settings _ _ c.loop-batch.invariant.so_far ∙ same_settings _ _ c.in_ok-builder.ensures ∙ c.in_ok-plan.ensures.settings)
     ∙ same_index c.args.points.now.vectors c.settings_for_vamana.result c.args.options.now c.settings_for_vamana.ensures.order c.settings_for_vamana.ensures.start c.settings_for_vamana.ensures.seed
-    c.settings_for_vamana.ensures.degree c.settings_for_vamana.ensures.beam c.settings_for_vamana.ensures.num c.settings_for_vamana.ensures.den c.settings_for_vamana.ensures.cap
+    c.settings_for_vamana.ensures.degree c.settings_for_vamana.ensures.beam c.settings_for_vamana.ensures.num c.settings_for_vamana.ensures.den c.settings_for_vamana.ensures.cap c.settings_for_vamana.ensures.passes
