@@ -11,7 +11,8 @@ use Rattle.command_options.specs.declared.option_name.OptionName.{OptionName}
 use Rattle.annbuild_words.specs.Asked.{Meaning, Nothing', meaning_by}
 use Rattle.command_options.specs.Forms.{option_form}
 use Rattle.command_options.specs.Options.{option_name, every_option, is_named}
-use Rattle.annbuild_words.specs.Rules.{is_known, is_set_well, may_stand, keeps_rules}
+use Rattle.command_options.specs.Shapes.{has_option}
+use Rattle.annbuild_words.specs.Rules.{is_known, is_set_well, keeps_rules}
 use Rattle.command_options.specs.Verbs.{roles_of}
 use Rattle.command_options.specs.Shapes.{is_built}
 use Rattle.annbuild_words.specs.Words.{Item, Sets, IsValue, Names, Wrong, is_dashed, is_option, has_equals, is_bare, bare_item, item, items, items_after, value_for, values_for, files_of}
@@ -121,11 +122,11 @@ at_most_once m form [] h = omega arith
 at_most_once m form (a ∷ []) h = omega arith
 at_most_once m form (a ∷ b ∷ texts) h = absurd (false≢true h)
 
-total_few : (verb : Verb) (kind : Kind) (os : List OptionName) (xs : List Item) → list_all (λ o. is_set_well (may_stand verb kind o) (option_form verb kind o) (values_for (option_name o) xs)) os ≡ true → total os xs ≤ length os
+total_few : (verb : Verb) (kind : Kind) (os : List OptionName) (xs : List Item) → list_all (λ o. is_set_well (has_option verb kind o) (option_form verb kind o) (values_for (option_name o) xs)) os ≡ true → total os xs ≤ length os
 total_few verb kind [] xs h = omega arith
 total_few verb kind (o ∷ os) xs h =
-    let parts = two_parts (is_set_well (may_stand verb kind o) (option_form verb kind o) (values_for (option_name o) xs)) (list_all (λ o. is_set_well (may_stand verb kind o) (option_form verb kind o) (values_for (option_name o) xs)) os) h in
-    omega (arith, at_most_once (may_stand verb kind o) (option_form verb kind o) (values_for (option_name o) xs) parts.0, total_few verb kind os xs parts.1)
+    let parts = two_parts (is_set_well (has_option verb kind o) (option_form verb kind o) (values_for (option_name o) xs)) (list_all (λ o. is_set_well (has_option verb kind o) (option_form verb kind o) (values_for (option_name o) xs)) os) h in
+    omega (arith, at_most_once (has_option verb kind o) (option_form verb kind o) (values_for (option_name o) xs) parts.0, total_few verb kind os xs parts.1)
 
 pub few_names : (verb : Verb) → length (roles_of verb) ≤ 4
 few_names verbs.Build = omega arith
@@ -146,7 +147,7 @@ pub names_counted : (verb : Verb) (kind : Kind) (xs : List Item) → keeps_rules
 unfolding keeps_rules
 names_counted verb kind xs h =
     let known = two_parts (list_all is_known xs) _ h in
-    let well = two_parts (list_all (λ o. is_set_well (may_stand verb kind o) (option_form verb kind o) (values_for (option_name o) xs)) every_option) (length (files_of xs) == length (roles_of verb)) known.1 in
+    let well = two_parts (list_all (λ o. is_set_well (has_option verb kind o) (option_form verb kind o) (values_for (option_name o) xs)) every_option) (length (files_of xs) == length (roles_of verb)) known.1 in
     eqb-true _ _ well.1
 
 few_words : (verb : Verb) (kind : Kind) (words : List (List ℕ)) → keeps_rules verb kind (items words) ≡ true → length words ≤ 58
@@ -154,7 +155,7 @@ unfolding keeps_rules items
 few_words verb kind words h =
     let xs : List Item = items_after false words in
     let known = two_parts (list_all is_known xs) _ h in
-    let well = two_parts (list_all (λ o. is_set_well (may_stand verb kind o) (option_form verb kind o) (values_for (option_name o) xs)) every_option) (length (files_of xs) == length (roles_of verb)) known.1 in
+    let well = two_parts (list_all (λ o. is_set_well (has_option verb kind o) (option_form verb kind o) (values_for (option_name o) xs)) every_option) (length (files_of xs) == length (roles_of verb)) known.1 in
     let count : length (files_of xs) ≡ length (roles_of verb) = eqb-true _ _ well.1 in
     let long : length words ≤ 0 + weights xs = weighed false words known.0 in
     let heavy : weights xs ≡ 2 * sets xs + length (files_of xs) = weights_are xs in

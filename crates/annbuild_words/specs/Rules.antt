@@ -18,7 +18,7 @@ use Rattle.annbuild_words.specs.declared.range.OutOfRange.{OutOfRange}
 use Rattle.annbuild_words.specs.Words.{Item, Sets, IsValue, Names, Wrong, values_for, files_of}
 use Rattle.command_options.specs.Options.{option_name, every_option, is_named}
 use Rattle.command_options.specs.Verbs.{roles_of}
-use Rattle.command_options.specs.Shapes.{has_option, is_option_built}
+use Rattle.command_options.specs.Shapes.{has_option}
 use Rattle.command_options.specs.Forms.{option_form}
 use Rattle.command_options.specs.Settings.{number_or, kind_code}
 use Rattle.annbuild_words.specs.ValueTexts.{value_in, value_or_default}
@@ -31,10 +31,6 @@ is_known (Names []) = false
 is_known (Names (b ∷ bytes)) = true
 is_known Wrong = false
 
--- an option of a command and a kind that the program has
-abbrev pub may_stand : Verb → Kind → OptionName → Bool
-may_stand verb kind option = has_option verb kind option && is_option_built option
-
 -- no value; or one, where the option may stand and the value is of its kind
 abbrev pub is_set_well : (allowed : Bool) → Form → List (List ℕ) → Bool
 is_set_well allowed form [] = true
@@ -43,7 +39,7 @@ is_set_well allowed form texts = false
 
 -- words that keep the rules: each is known, each option stands at most once, is one of the command's and has a value of its kind, and there are as many file names as the command has
 unfoldable pub keeps_rules : Verb → Kind → List Item → Bool
-keeps_rules verb kind words = list_all is_known words && (list_all (λ o. is_set_well (may_stand verb kind o) (option_form verb kind o) (values_for (option_name o) words)) every_option
+keeps_rules verb kind words = list_all is_known words && (list_all (λ o. is_set_well (has_option verb kind o) (option_form verb kind o) (values_for (option_name o) words)) every_option
     && length (files_of words) == length (roles_of verb))
 
 -- the text that words give to an option of the command

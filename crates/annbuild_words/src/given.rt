@@ -5,12 +5,12 @@ ghost use Rattle.std.specs.Option.{option_copied};
 ghost use Rattle.std.specs.Str.{bytes_eq};
 ghost use Rattle.annbuild_words.specs.Words.{value_for, file_of, values_for, files_of};
 ghost use Rattle.command_options.specs.Options.{option_name, is_named, every_option};
-ghost use Rattle.annbuild_words.specs.Rules.{is_known, may_stand};
+ghost use Rattle.annbuild_words.specs.Rules.{is_known};
 ghost use Rattle.annbuild_words.specs.Parts.{item_of, items_of};
 
 use crate::item::Part;
 use ann_defs::Kind;
-use command_options::{OPTIONS, OptionName, Verb, has_option, is_option_built, name_of};
+use command_options::{OPTIONS, OptionName, name_of};
 
 /// The value that a part sets for an option.
 fn value_set<'w>(part: Part<'w>, name: &str) -> Option<&'w str>
@@ -87,13 +87,6 @@ fn is_of_table(name: &str) -> bool
     ensures { result ≡ is_named name.now every_option }
 {
     OPTIONS.iter().any(|option| name == name_of(*option))
-}
-
-/// Whether a command has an option for a kind, and the program has the option.
-pub fn may_stand(verb: Verb, kind: Kind, option: OptionName) -> bool
-    ensures { result ≡ may_stand verb kind option }
-{
-    has_option(verb, kind, option) && is_option_built(option)
 }
 
 /// Whether words may have a part: an option of the table with its value, or a file name that isn't empty.

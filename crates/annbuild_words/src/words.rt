@@ -5,12 +5,13 @@ ghost use Rattle.annbuild_words.specs.Asked.{seen, request_of, file_at, checked,
 ghost use Rattle.command_options.specs.Forms.{option_form};
 ghost use Rattle.command_options.specs.Options.{option_name, every_option};
 ghost use Rattle.annbuild_words.specs.Parts.{items_of, texts};
-ghost use Rattle.annbuild_words.specs.Rules.{is_set_well, may_stand, keeps_rules, outside_option, first_outside};
+ghost use Rattle.annbuild_words.specs.Rules.{is_set_well, keeps_rules, outside_option, first_outside};
 ghost use Rattle.command_options.specs.Settings.{settings_of};
+ghost use Rattle.command_options.specs.Shapes.{has_option};
 ghost use Rattle.annbuild_words.specs.Rules as rules;
 ghost use Rattle.annbuild_words.specs.Words.{items, values_for, files_of};
 
-use crate::given::{are_known, count_files, file_at, given_at, may_stand};
+use crate::given::{are_known, count_files, file_at, given_at};
 use crate::item::{Part, cut};
 use crate::range::{OutOfRange, value_outside};
 use crate::value::{or_default, read_value};
@@ -45,7 +46,7 @@ impl<'b, 'w> Values for Given<'b, 'w> {
 impl<'b, 'w> Given<'b, 'w> {
     /// Whether an option is set at most once, and then is one that the command has, with a value of its kind.
     fn is_set_well(&self, option: OptionName) -> bool
-        ensures { result ≡ is_set_well (may_stand self.now.verb self.now.kind option) (option_form self.now.verb self.now.kind option) (values_for (option_name option) (items_of self.now.parts.now)) }
+        ensures { result ≡ is_set_well (has_option self.now.verb self.now.kind option) (option_form self.now.verb self.now.kind option) (values_for (option_name option) (items_of self.now.parts.now)) }
     {
         let name = name_of(option);
         let Some(text) = given_at(self.parts, name, 0) else {
@@ -54,13 +55,13 @@ impl<'b, 'w> Given<'b, 'w> {
         if given_at(self.parts, name, 1).is_some() {
             return false;
         }
-        may_stand(self.verb, self.kind, option)
+        has_option(self.verb, self.kind, option)
             && read_value(form_of(self.verb, self.kind, option), text).is_some()
     }
 
     /// Whether each of these options is.
     fn are_set_well(&self, options: &[OptionName]) -> bool
-        ensures { result ≡ list_all (λ o. is_set_well (may_stand self.now.verb self.now.kind o) (option_form self.now.verb self.now.kind o) (values_for (option_name o) (items_of self.now.parts.now))) options.now }
+        ensures { result ≡ list_all (λ o. is_set_well (has_option self.now.verb self.now.kind o) (option_form self.now.verb self.now.kind o) (values_for (option_name o) (items_of self.now.parts.now))) options.now }
     {
         for option in options {
             if !self.is_set_well(*option) {

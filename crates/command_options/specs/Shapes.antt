@@ -77,10 +77,3 @@ is_built verbs.Make kind = true
 is_built verbs.Trial kind = true
 is_built verbs.Live kind = true
 is_built verb kind = false
-
--- the same of options
-abbrev pub is_option_built : OptionName → Bool
-is_option_built options.Passes = false
-is_option_built options.Format = false
-is_option_built options.Type = false
-is_option_built option = true

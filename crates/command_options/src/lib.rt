@@ -21,7 +21,7 @@ pub use option_name::{OPTIONS, OptionName, long_of, name_of};
 pub use role::{Role, role_text};
 pub use setting_name::SettingName;
 pub use settings::Settings;
-pub use shape::{has_option, has_option_of_any, is_built, is_option_built};
+pub use shape::{has_option, has_option_of_any, is_built};
 pub use value::{Value, default_of, number_of};
 pub use values::{Values, kind_in_value, settings_of};
 pub use verb::{VERBS, Verb, read_verb, roles_of, verb_text};

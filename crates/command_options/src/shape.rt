@@ -1,6 +1,6 @@
 //! The options of each command, and what the program does today.
 ghost use Rattle.std.specs.Prelude.{◌≡◌};
-ghost use Rattle.command_options.specs.Shapes.{is_exact, is_live, builds, shape_kind, own_options, options_of_kind, build_options, is_among, has_option, has_option_of_any, is_built, is_option_built};
+ghost use Rattle.command_options.specs.Shapes.{is_exact, is_live, builds, shape_kind, own_options, options_of_kind, build_options, is_among, has_option, has_option_of_any, is_built};
 
 use crate::{OptionName, Verb, name_of};
 use ann_defs::Kind;
@@ -179,15 +179,5 @@ pub fn is_built(verb: Verb, kind: Kind) -> bool
         (Verb::Build | Verb::Trial | Verb::Query | Verb::Check | Verb::Make | Verb::Live, _) =>
             true,
         _ => false,
-    }
-}
-
-/// Whether the program has an option today. Words that set another mean no request.
-pub fn is_option_built(option: OptionName) -> bool
-    ensures { result ≡ is_option_built option }
-{
-    match option {
-        OptionName::Passes | OptionName::Format | OptionName::Type => false,
-        _ => true,
     }
 }

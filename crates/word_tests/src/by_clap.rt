@@ -1,6 +1,6 @@
 //! Builds, a query and a build that is asked, read by clap.
 
-use ann_defs::Kind;
+use ann_defs::{Element, Kind};
 use annbuild_clap::{Parsed, parse_by_clap};
 use annbuild_words::{Asked, Verb, read_words};
 use std::alloc::Global;
@@ -40,13 +40,14 @@ fn odd_file_names_and_settings_are_read_by_clap(rt: HostRuntime) -> Result<(), F
     assert_eq!(rt; layered.names.second, "y");
     assert_eq!(rt; (layered.settings.degree, layered.settings.bits), (16, 2));
     assert_eq!(rt; layered.settings.max_level, 15);
-    let words = ["query", "build", "query", "--k=3", "x"];
+    let words = ["query", "build", "query", "--k=3", "x", "--type", "i8"];
     let parsed = read_twice(rt.alloc(), &words)?;
     let query = parsed.request();
     assert_eq!(rt; query.verb, Verb::Query);
     assert_eq!(rt; query.names.third, "x");
     assert_eq!(rt; query.settings.search, 64);
     assert_eq!(rt; query.settings.k, 3);
+    assert_eq!(rt; query.settings.element, Element::I8);
     let words = ["live", "--callers", "16", "live", "--cap=2", "a b", "x"];
     let parsed = read_twice(rt.alloc(), &words)?;
     let live = parsed.request();

@@ -85,6 +85,17 @@ fn worked_words(rt: HostRuntime) -> Result<(), Fail> {
         ("--degree 2 build a b", Want::Nothing),
         ("check a", Want::Nothing),
         ("check a b --workers 2", Want::Nothing),
+        ("make a --type i8", Want::Nothing),
+        ("trial --kind nnd --type u8", Want::Nothing),
+        ("build a b --type u16", Want::Nothing),
+        ("query a b c --type i8 --type i8", Want::Nothing),
+        ("build a b --type u8", Want::Accepted(Verb::Build)),
+        (
+            "build a b --kind hnsw --type i8",
+            Want::Accepted(Verb::Build),
+        ),
+        ("query a b c --type=i8", Want::Accepted(Verb::Query)),
+        ("check --type i8 a b", Want::Accepted(Verb::Check)),
         ("make a b", Want::Nothing),
         ("make a --kind hnsw", Want::Nothing),
         ("trial a", Want::Nothing),
@@ -219,6 +230,7 @@ fn worked_words_of_live(rt: HostRuntime) -> Result<(), Fail> {
         ("live a b c --bits 4", Want::Nothing),
         ("live a b c --kind hnsw --bits 4", Want::Nothing),
         ("live a b c", Want::Accepted(Verb::Live)),
+        ("live a b c --type i8", Want::Accepted(Verb::Live)),
         (
             "live --callers=16 a b --kind vamana c --search 4 --k 4 --order file",
             Want::Accepted(Verb::Live),
@@ -247,6 +259,14 @@ fn worked_words_of_live(rt: HostRuntime) -> Result<(), Fail> {
             "live a b c --kind nnd",
             Want::Outside(SettingName::Kind, 3, 1, 1),
         ),
+        (
+            "live a b c --format 3 --passes 3",
+            Want::Outside(SettingName::Passes, 3, 1, 2),
+        ),
+        (
+            "build a b --kind hnsw --format 0 --max-level 15",
+            Want::Outside(SettingName::Format, 0, 1, 2),
+        ),
     ];
     assert_means(&rt, rt.alloc(), &rows)
 }
@@ -254,20 +274,14 @@ fn worked_words_of_live(rt: HostRuntime) -> Result<(), Fail> {
 #[test]
 fn what_the_program_does_not_have_is_no_request(rt: HostRuntime) -> Result<(), Fail> {
     let rows = [
-        "build a b --kind nnd --format 1",
         "build a b --kind nnd --passes 1",
-        "build a b --kind hnsw --format 1",
-        "build a b --kind hnsw --type u8",
-        "build a b --passes 1",
-        "build a b --format 1",
-        "build a b --type u8",
-        "query a b c --type u8",
+        "build a b --kind hnsw --passes 2",
+        "trial --format 1",
+        "trial --type u8",
+        "make a --type u8",
+        "query a b c --format 1",
+        "check a b --passes 1",
         "query a b c --label 0",
-        "trial --kind nnd --type u8",
-        "check a b --type u8",
-        "live a b c --passes 1",
-        "live a b c --format 1",
-        "live a b c --type u8",
         "exact a b",
         "recall a b c",
         "forget a b c d",
@@ -333,6 +347,8 @@ fn settings_and_defaults(rt: HostRuntime) -> Result<(), Fail> {
     assert_eq!(rt; layered.kind, Kind::Hnsw);
     assert_eq!(rt; (layered.degree, layered.beam), (16, 128));
     assert_eq!(rt; (layered.bits, layered.max_level), (4, 15));
+    let signed = settings_in(rt.alloc(), "check a b --type i8")?;
+    assert_eq!(rt; signed.element, Element::I8);
     let set = settings_in(rt.alloc(), "build --bits 1 a --kind=hnsw b --max-level 0")?;
     assert_eq!(rt; set.kind, Kind::Hnsw);
     assert_eq!(rt; (set.degree, set.bits, set.max_level), (16, 1, 0));
