@@ -4,6 +4,7 @@ use Rattle.std.specs.Prelude.{Result, Ok, Err}
 use Rattle.std.specs.Option.{option_map, option_or}
 use Rattle.ann_shelf.specs.Files.{Files}
 use Rattle.ann_defs.specs.Distance.{PointSet}
+use Rattle.ann_defs.specs.declared.kinds.Element.{Element}
 use Rattle.bin_files.specs.declared.fault.PointsFault.{PointsFault}
 use Rattle.bin_files.specs.declared.fault.PointsFault.TheVariants.{Read as PointsRead, Malformed as BrokenPoints, TooLarge as LargePoints, NoMemory as NoPointsMemory}
 use Rattle.bin_files.specs.Points.{text, verdict}
@@ -51,8 +52,8 @@ index_reading role file (LargeIndex name value limit) h = index_refused role fil
 index_reading role file NoIndexMemory h = tt
 
 -- the file that points were read from is their text
-pub points_text : (role : Role) (file : List ℕ) (X : PointSet) → AreOf role file X → IsPointsText file
-points_text role file X of = (subst (λ (Y : PointSet). ArePoints Y.vectors) of.points_are of.limits, of.text_is ∙ ap text of.points_are)
+pub points_text : (role : Role) (element : Element) (file : List ℕ) (X : PointSet) → AreOf role element file X → IsPointsText element file
+points_text role element file X of = (subst (λ (Y : PointSet). ArePoints Y.vectors) of.points_are of.limits, of.text_is ∙ ap text of.points_are)
 
 -- one read alone
 pub alone : (r : Reads) (files : Files) → r.refused files ≡ None → first_refused (r ∷ []) files ≡ None

@@ -2,7 +2,7 @@
 use Rattle.std.specs.Prelude.{◌≡◌, ℕ, List, Option, Some, None, Ok}
 use Rattle.ann_shelf.specs.Files.{bytes_of}
 use Rattle.ann_defs.specs.Distance.{PointSet}
-use Rattle.ann_defs.specs.declared.kinds.Element.TheVariants.{U8}
+use Rattle.ann_defs.specs.declared.kinds.Element.{Element}
 use Rattle.bin_files.specs.Points.{points_of, text}
 use Rattle.bin_files.specs.Rows.{ArePoints}
 use Rattle.graph_rows.specs.Index.{Contents}
@@ -13,10 +13,18 @@ use Rattle.command_options.specs.declared.role.Role.{Role}
 use Rattle.command_shapes.specs.Doing.{Reads}
 use Rattle.command_shapes.specs.Faults.{points_refusal, index_refusal}
 
--- the points of a well-formed file
-pub record AreOf (role : Role) (file : List ℕ) (points : PointSet) : Type 0 where
+-- the points of a file that is read as one of this element type
+abbrev pub points_in : Element → List ℕ → PointSet
+points_in element file = points_of element file
+
+-- a file is the text of the points that it is taken for, which are within the limits
+abbrev pub IsPointsText : Element → List ℕ → Type 0
+IsPointsText element file = ArePoints (points_in element file).vectors × (file ≡ text (points_in element file))
+
+-- the points of a well-formed file that is read as one of this element type
+pub record AreOf (role : Role) (element : Element) (file : List ℕ) (points : PointSet) : Type 0 where
   pub accepted : points_refusal role file ≡ None
-  pub points_are : points ≡ points_of U8 file
+  pub points_are : points ≡ points_in element file
   pub text_is : file ≡ text points
   pub limits : ArePoints points.vectors
 
@@ -25,20 +33,12 @@ pub record IsOf (role : Role) (file : List ℕ) (i : Contents) : Type 0 where
   pub accepted : index_refusal role file ≡ None
   pub index_is : index_in file ≡ Ok i
 
--- reading a file of points, and one of an index
+-- reading a file of points, of either element type, and one of an index
 abbrev pub points_read : Role → List ℕ → Reads
 points_read role name = record { role = role; name = name; refused = λ files. points_refusal role (bytes_of files name) }
 
 abbrev pub index_read : Role → List ℕ → Reads
 index_read role name = record { role = role; name = name; refused = λ files. index_refusal role (bytes_of files name) }
-
--- the points of a file
-abbrev pub points_in : List ℕ → List (List ℕ)
-points_in file = (points_of U8 file).vectors
-
--- a file is the text of the points that it is taken for, which are within the limits
-abbrev pub IsPointsText : List ℕ → Type 0
-IsPointsText file = ArePoints (points_in file) × (file ≡ text (points_of U8 file))
 
 -- a fault of reading a file: the first refusal that its bytes show; a failed read and want of memory may stand in its place
 abbrev pub IsOfReading : Option Fault → Role → Fault → Type 0

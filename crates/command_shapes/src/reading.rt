@@ -8,26 +8,28 @@ ghost use Rattle.command_shapes.specs.Ends.{HaveRead, FailedRead};
 ghost use Rattle.bin_files.specs.Rows.{ArePoints};
 
 use crate::faults::{index_fault, points_fault};
+use ann_defs::Element;
 use ann_shelf::Shelf;
 use annbuild_lines::Fault;
-use bin_files::{Points, read_points};
+use bin_files::{Points, read_points_as};
 use command_options::Role;
 use graph_files::{Index, read_index};
 use std::alloc::Global;
 
-/// Reads the points of a file.
+/// Reads the points of a file of this element type.
 pub fn read_points_of<F: Shelf>(
     alloc: Global,
     shelf: &mut F,
     role: Role,
     name: &str,
+    element: Element,
 ) -> Result<Points, Fault>
-    ensures points { IfOk result (λ p. IfSome (F.shown shelf.old).held (λ files. AreOf role (bytes_of files name.now) p)) }
+    ensures points { IfOk result (λ p. IfSome (F.shown shelf.old).held (λ files. AreOf role element (bytes_of files name.now) p)) }
     ensures limits { IfOk result (λ p. ArePoints p.vectors) }
     ensures read { OnOk result (HaveRead (points_read role name.now ∷ []) (F.shown shelf.old) (F.shown shelf.new)) }
     ensures failed { IfErr result (FailedRead (points_read role name.now) (F.shown shelf.old) (F.shown shelf.new)) }
 {
-    match read_points(alloc, shelf, name) {
+    match read_points_as(alloc, shelf, name, element) {
         Ok(points) => Ok(points),
         Err(fault) => Err(points_fault(role, fault)),
     }

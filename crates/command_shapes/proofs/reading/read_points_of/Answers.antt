@@ -29,6 +29,6 @@ returns-in-Err-clause-failed g c = record {
   only = record { held = c.in-Err.ensures.only_reads.held; reads = c.in-Err.ensures.only_reads.reads; writes = c.in-Err.ensures.only_reads.writes };
   refused = told_then (g.F.Shelf.shown c.args.shelf.now).held c.in-Err.ensures.verdict (λ files judged.
       subst (IsOfReading (points_refusal c.args.role (bytes_of files c.args.name.now)) c.args.role) (sym c.points_fault.ensures) (points_reading c.args.role (bytes_of files c.args.name.now) c.in-Err.fault judged));
-  cause = subst (IsReadFault c.args.role (Rose ((g.F.Shelf.shown c.args.shelf.now).read_faults c.args.name.now) ((g.F.Shelf.shown c.read_points.new.shelf).read_faults c.args.name.now))) (sym c.points_fault.ensures)
+  cause = subst (IsReadFault c.args.role (Rose ((g.F.Shelf.shown c.args.shelf.now).read_faults c.args.name.now) ((g.F.Shelf.shown c.read_points_as.new.shelf).read_faults c.args.name.now))) (sym c.points_fault.ensures)
       (points_cause c.args.role _ c.in-Err.fault (λ e. c.in-Err.ensures.only_reads.cause (ap Err e)));
 }
