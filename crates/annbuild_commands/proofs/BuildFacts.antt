@@ -16,9 +16,9 @@ use Rattle.annbuild_commands.specs.Building.{building, IsIndexOf}
 pub build_leads : (files : Files) (base index : List ℕ) (o : Settings) (i : Contents) (text line : List ℕ) → IsIndexOf (bytes_of files base) o i → text ≡ file_of i → line ≡ line_of i
     → Leads (building base index o) (Some (stored_as Index index text)) (λ run. true) (λ run. line ∷ []) files
 build_leads files base index o i text line is spelled told =
-    let same : text ≡ file_of (index_of (points_in (bytes_of files base)) o) = spelled ∙ ap file_of is.index_is in
+    let same : text ≡ file_of (index_of (points_in o.element (bytes_of files base)) o) = spelled ∙ ap file_of is.index_is in
     record {
-      accepted = ap (λ u. option_or (option_or u None) (words_refusal (words_of (length (points_in (bytes_of files base))) o))) is.accepted ∙ is.fits;
+      accepted = ap (λ u. option_or (option_or u None) (words_refusal (words_of (length (points_in o.element (bytes_of files base)).vectors) o))) is.accepted ∙ is.fits;
       meant = is.meant;
       stored = ap (with_file files index) same;
       runs = λ run e. e;

@@ -65,6 +65,8 @@ for_build v o same r = record {
   ordered = r.ordered;
   num = r.num;
   cap = r.cap;
+  some_pass = r.some_pass;
+  passes = r.passes;
   some_bit = r.some_bit;
   bits = r.bits;
   max_level = r.max_level;
@@ -75,6 +77,8 @@ for_build v o same r = record {
   two_in_a_leaf = r.two_in_a_leaf;
   leaf = r.leaf;
   rounds = r.rounds;
+  some_format = r.some_format;
+  format = r.format;
 }
 
 -- an index that fits

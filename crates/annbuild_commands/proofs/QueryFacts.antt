@@ -18,15 +18,15 @@ use Rattle.annbuild_commands.specs.Querying.{querying}
 use Rattle.annbuild_commands.proofs.Fits.{unfit_read, answers_are}
 
 pub query_leads : (held : Option Files) (base index queries : List ℕ) (X Q : PointSet) (i : Contents) (o : Settings)
-    → IfSome held (λ files. AreOf Base (bytes_of files base) X) → IfSome held (λ files. IsOf Index (bytes_of files index) i) → IfSome held (λ files. AreOf Queries (bytes_of files queries) Q)
+    → IfSome held (λ files. AreOf Base o.element (bytes_of files base) X) → IfSome held (λ files. IsOf Index (bytes_of files index) i) → IfSome held (λ files. AreOf Queries o.element (bytes_of files queries) Q)
     → IfSome held (λ files. first_refused (querying base index queries o).reads files ≡ None)
-    → unfit_in X.vectors i Q.vectors ≡ None → IfSome held (Leads (querying base index queries o) None (λ run. true) (λ run. lines_from 0 (answers_of X.vectors i o.search o.k Q.vectors)))
+    → unfit_in X i Q.vectors ≡ None → IfSome held (Leads (querying base index queries o) None (λ run. true) (λ run. lines_from 0 (answers_of X.vectors i o.search o.k Q.vectors)))
 query_leads held base index queries X Q i o points is asked read fit =
-    both_told held held refl (both_pair (λ files. AreOf Base (bytes_of files base) X) (λ files. IsOf Index (bytes_of files index) i) held held refl points is)
-    (both_pair (λ files. AreOf Queries (bytes_of files queries) Q) (λ files. first_refused (querying base index queries o).reads files ≡ None) held held refl asked read) (λ files a b. record {
-      accepted = refusal_is (querying base index queries o) files b.1 ∙ unfit_read (bytes_of files base) (bytes_of files index) (bytes_of files queries) X Q i a.0 a.1 b.0 ∙ fit;
-      meant = (points_text Base (bytes_of files base) X a.0, points_text Queries (bytes_of files queries) Q b.0);
+    both_told held held refl (both_pair (λ files. AreOf Base o.element (bytes_of files base) X) (λ files. IsOf Index (bytes_of files index) i) held held refl points is)
+    (both_pair (λ files. AreOf Queries o.element (bytes_of files queries) Q) (λ files. first_refused (querying base index queries o).reads files ≡ None) held held refl asked read) (λ files a b. record {
+      accepted = refusal_is (querying base index queries o) files b.1 ∙ unfit_read o (bytes_of files base) (bytes_of files index) (bytes_of files queries) X Q i a.0 a.1 b.0 ∙ fit;
+      meant = (points_text Base o.element (bytes_of files base) X a.0, points_text Queries o.element (bytes_of files queries) Q b.0);
       stored = refl;
       runs = λ run e. e;
-      prints = λ run. ap (lines_from 0) (sym (answers_are (bytes_of files base) (bytes_of files index) (bytes_of files queries) X Q i a.0 a.1 b.0 o));
+      prints = λ run. ap (lines_from 0) (sym (answers_are o (bytes_of files base) (bytes_of files index) (bytes_of files queries) X Q i a.0 a.1 b.0));
     })

@@ -84,8 +84,8 @@ trial_of_index p o fault e cells why = elim why as (λ _. (trial_refusal o ≡ S
   | inr is ↦ inr is
 ]
 
-pub index_is_tried : (p : PointSet) (o : Settings) → p ≡ points_made o → index_of p.vectors o ≡ index_tried o
-index_is_tried p o e = ap (λ (q : PointSet). index_of q.vectors o) e
+pub index_is_tried : (p : PointSet) (o : Settings) → p ≡ points_made o → index_of p o ≡ index_tried o
+index_is_tried p o e = ap (λ (q : PointSet). index_of q o) e
 
 -- an index has as many points as it is of
 vamana_count : (X : List (List ℕ)) (o : Settings) → (vamana_of X o).count ≡ length X
@@ -105,13 +105,13 @@ kind_count Vamana X o = vamana_count X o
 kind_count Hnsw X o = hnsw_count X o
 kind_count Nnd X o = nnd_count X o
 
-pub index_count : (X : List (List ℕ)) (o : Settings) → (index_of X o).count ≡ length X
+pub index_count : (X : PointSet) (o : Settings) → (index_of X o).count ≡ length X.vectors
 unfolding index_of
-index_count X o = kind_count o.kind X o
+index_count X o = kind_count o.kind X.vectors o
 
 -- the index and the queries of a trial fit its points
 pub tried_count : (i : Contents) (p : PointSet) (o : Settings) → i ≡ index_tried o → p ≡ points_made o → i.count ≡ length p.vectors
-tried_count i p o e f = ap (λ (j : Contents). j.count) e ∙ index_count (vectors_made o) o ∙ ap (λ (q : PointSet). length q.vectors) (sym f)
+tried_count i p o e f = ap (λ (j : Contents). j.count) e ∙ index_count (points_made o) o ∙ ap (λ (q : PointSet). length q.vectors) (sym f)
 
 pub tried_dim : (Q : List (List ℕ)) (p : PointSet) (o : Settings) → Q ≡ queries_made o → p ≡ points_made o → 1 ≤ o.queries → 1 ≤ o.count → dim_of Q ≡ dim_of p.vectors
 tried_dim Q p o e f some many = ap dim_of e ∙ queries_dim o some ∙ sym (points_dim o many) ∙ ap (λ (q : PointSet). dim_of q.vectors) (sym f)

@@ -13,11 +13,11 @@ use Rattle.index_build.specs.Limits.{words_refusal}
 
 -- the bytes of the index of what a file of points holds
 abbrev pub index_text : List ℕ → Settings → List ℕ
-index_text file o = file_of (index_of (points_in file) o)
+index_text file o = file_of (index_of (points_in o.element file) o)
 
 -- the line of that index
 abbrev pub index_line : List ℕ → Settings → List ℕ
-index_line file o = line_of (index_of (points_in file) o)
+index_line file o = line_of (index_of (points_in o.element file) o)
 
 -- the index file of a build
 abbrev pub index_stored : List ℕ → List ℕ → Settings → Stored
@@ -27,8 +27,8 @@ index_stored base index o = record { role = Index; name = index; text = λ files
 abbrev pub building : (base index : List ℕ) → Settings → Doing
 building base index o = record {
   reads = points_read Base base ∷ [];
-  rest = λ files. words_refusal (words_of (length (points_in (bytes_of files base))) o);
-  meant = λ files. IsPointsText (bytes_of files base);
+  rest = λ files. words_refusal (words_of (length (points_in o.element (bytes_of files base)).vectors) o);
+  meant = λ files. IsPointsText o.element (bytes_of files base);
   stores = Some (index_stored base index o);
   lawful = λ files run. true;
   pieces = λ files run. index_line (bytes_of files base) o ∷ [];
@@ -37,6 +37,6 @@ building base index o = record {
 -- the index is that of the points of this file
 pub record IsIndexOf (file : List ℕ) (o : Settings) (i : Contents) : Type 0 where
   pub accepted : points_refusal Base file ≡ None
-  pub fits : words_refusal (words_of (length (points_in file)) o) ≡ None
-  pub meant : IsPointsText file
-  pub index_is : i ≡ index_of (points_in file) o
+  pub fits : words_refusal (words_of (length (points_in o.element file).vectors) o) ≡ None
+  pub meant : IsPointsText o.element file
+  pub index_is : i ≡ index_of (points_in o.element file) o

@@ -17,7 +17,7 @@ use Rattle.annbuild_commands.specs.Living.{living}
 abbrev pub doing_by : Verb → (first second third fourth : List ℕ) → Settings → Doing
 doing_by verbs.Build base index third fourth s = building base index s
 doing_by verbs.Query base index queries fourth s = querying base index queries s
-doing_by verbs.Check base index third fourth s = checking base index
+doing_by verbs.Check base index third fourth s = checking base index s
 doing_by verbs.Make base second third fourth s = making base s
 doing_by verbs.Trial first second third fourth s = trying s
 doing_by verbs.Live base index queries fourth s = living base index queries s

@@ -3,6 +3,7 @@
 use Rattle.std.specs.Prelude.{◌≡◌, ℕ, ◌≤◌, Bool, true, List, [], ◌∷◌, ◌++◌, length, map, zip, Option, Some}
 use Rattle.std.specs.List.{All}
 use Rattle.std.specs.Option.{option_or}
+use Rattle.ann_defs.specs.Distance.{PointSet}
 use Rattle.ann_defs.specs.Graph.{row_in}
 use Rattle.ann_defs.specs.GreedySearch.{answer_of}
 use Rattle.ann_defs.specs.declared.limits.TheConstants.{MAX_POINTS}
@@ -51,9 +52,9 @@ abbrev pub batch_line : Moment → ℕ → (ℕ × List Near) → List ℕ
 batch_line moment number answer = batch_text moment number answer.0 answer.1
 
 -- the line of the index, a line for each answer beside the build, and a line for each in the last graph
-unfoldable pub live_pieces : (X Q : List (List ℕ)) → Settings → (run : List ℕ) → List (List ℕ)
+unfoldable pub live_pieces : PointSet → (Q : List (List ℕ)) → Settings → (run : List ℕ) → List (List ℕ)
 live_pieces X Q o run =
-    line_of (index_of X o) ∷ (numbered_lines (batch_line During) 0 (answers_beside X Q o run) ++ numbered_lines (batch_line After) 0 (answers_last X Q o))
+    line_of (index_of X o) ∷ (numbered_lines (batch_line During) 0 (answers_beside X.vectors Q o run) ++ numbered_lines (batch_line After) 0 (answers_last X.vectors Q o))
 
 -- the runs that may be of points and queries
 abbrev pub may_run : (X Q : List (List ℕ)) → Settings → List ℕ → Bool
@@ -64,24 +65,24 @@ may_run X Q o run = is_lawful o.callers (vamana_batches X o) (length Q) run
 abbrev pub living : (base index queries : List ℕ) → Settings → Doing
 living base index queries o = record {
   reads = points_read Base base ∷ points_read Queries queries ∷ [];
-  rest = λ files. live_refusal (points_in (bytes_of files base)) (points_in (bytes_of files queries)) o;
-  meant = λ files. IsPointsText (bytes_of files base) × IsPointsText (bytes_of files queries);
+  rest = λ files. live_refusal (points_in o.element (bytes_of files base)).vectors (points_in o.element (bytes_of files queries)).vectors o;
+  meant = λ files. IsPointsText o.element (bytes_of files base) × IsPointsText o.element (bytes_of files queries);
   stores = Some (index_stored base index o);
-  lawful = λ files. may_run (points_in (bytes_of files base)) (points_in (bytes_of files queries)) o;
-  pieces = λ files run. live_pieces (points_in (bytes_of files base)) (points_in (bytes_of files queries)) o run;
+  lawful = λ files. may_run (points_in o.element (bytes_of files base)).vectors (points_in o.element (bytes_of files queries)).vectors o;
+  pieces = λ files run. live_pieces (points_in o.element (bytes_of files base)) (points_in o.element (bytes_of files queries)).vectors o run;
 }
 
 -- what is left of it once the points and the queries are read
-abbrev pub telling : (X Q : List (List ℕ)) → (index : List ℕ) → Settings → Doing
-telling X Q index o = writing_runs (Some (stored_as Index index (file_of (index_of X o)))) (may_run X Q o) (live_pieces X Q o)
+abbrev pub telling : PointSet → (Q : List (List ℕ)) → (index : List ℕ) → Settings → Doing
+telling X Q index o = writing_runs (Some (stored_as Index index (file_of (index_of X o)))) (may_run X.vectors Q o) (live_pieces X Q o)
 
 -- a session over points and queries with these settings
-pub record IsSession (X Q : List (List ℕ)) (o : Settings) (s : Session) : Type 0 where
+pub record IsSession (X : PointSet) (Q : List (List ℕ)) (o : Settings) (s : Session) : Type 0 where
   pub index_is : contents s.index ≡ index_of X o
   pub well_formed : IsWellFormed (contents s.index)
-  pub lawful : is_lawful o.callers (vamana_batches X o) (length Q) (batches_in s.live) ≡ true
-  pub live : s.live ≡ answers_beside X Q o (batches_in s.live)
-  pub last : s.last ≡ answers_last X Q o
+  pub lawful : is_lawful o.callers (vamana_batches X.vectors o) (length Q) (batches_in s.live) ≡ true
+  pub live : s.live ≡ answers_beside X.vectors Q o (batches_in s.live)
+  pub last : s.last ≡ answers_last X.vectors Q o
 
 -- answers to at least one query and not too many, none longer than was asked
 pub record AreTold (o : Settings) (answers : List (ℕ × List Near)) : Type 0 where

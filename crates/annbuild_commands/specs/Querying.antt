@@ -22,14 +22,14 @@ answers_with points (Err fault) queries o = []
 
 -- the answers to the queries of a file in the index of a file over the points of a file
 unfoldable pub answers_in : (base index queries : List ℕ) → Settings → List (List Near)
-answers_in base index queries o = answers_with (points_in base) (index_in index) (points_in queries) o
+answers_in base index queries o = answers_with (points_in o.element base).vectors (index_in index) (points_in o.element queries).vectors o
 
 -- it reads the data, the index and the queries, refuses those that don't fit together, and prints a line for each query
 abbrev pub querying : (base index queries : List ℕ) → Settings → Doing
 querying base index queries o = record {
   reads = points_read Base base ∷ index_read Index index ∷ points_read Queries queries ∷ [];
-  rest = λ files. unfit_files (bytes_of files base) (bytes_of files index) (bytes_of files queries);
-  meant = λ files. IsPointsText (bytes_of files base) × IsPointsText (bytes_of files queries);
+  rest = λ files. unfit_files o.element (bytes_of files base) (bytes_of files index) (bytes_of files queries);
+  meant = λ files. IsPointsText o.element (bytes_of files base) × IsPointsText o.element (bytes_of files queries);
   stores = None;
   lawful = λ files run. true;
   pieces = λ files run. lines_from 0 (answers_in (bytes_of files base) (bytes_of files index) (bytes_of files queries) o);

@@ -13,7 +13,7 @@ use Rattle.command_shapes.specs.Doing.{Doing}
 use Rattle.index_build.specs.IndexOf.{index_of, words_of}
 use Rattle.annbuild_commands.specs.IndexTexts.{line_of}
 use Rattle.index_build.specs.Limits.{cells_refusal, words_refusal}
-use Rattle.annbuild_commands.specs.Making.{vectors_made}
+use Rattle.annbuild_commands.specs.Making.{vectors_made, points_made}
 
 -- the first limit that is passed: of the points' numbers, then of the index's words
 abbrev pub trial_refusal : Settings → Option Fault
@@ -21,7 +21,7 @@ trial_refusal o = option_or (cells_refusal o.count o.dim) (words_refusal (words_
 
 -- the index of the made points
 abbrev pub index_tried : Settings → Contents
-index_tried o = index_of (vectors_made o) o
+index_tried o = index_of (points_made o) o
 
 -- the queries: the generator's bytes behind those of the points
 unfoldable pub queries_made : Settings → List (List ℕ)

@@ -35,7 +35,8 @@ fn prepared<R: Threads + Sync, F: Shelf, G: Gate + Sync>(
     ensures read { OnOk result (HaveRead (points_read roles.Base request.now.names.first.now ∷ []) (F.shown shelf.old) (F.shown shelf.new)) }
     ensures failed { IfErr result (λ fault. (had : Got) → Ends (building request.now.names.first.now request.now.names.second.now request.now.settings) (F.shown shelf.old) (F.shown shelf.new) had had (Some fault)) }
 {
-    let points = read_points_of(alloc, shelf, Role::Base, request.names.first)?;
+    let element = request.settings.element;
+    let points = read_points_of(alloc, shelf, Role::Base, request.names.first, element)?;
     index_for(rt, alloc, &points, &request.settings, gate)
 }
 

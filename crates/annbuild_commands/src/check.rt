@@ -11,7 +11,7 @@ ghost use Rattle.annbuild_commands.specs.Fitting.{index_unfit};
 ghost use Rattle.annbuild_commands.specs.Checking.{checking};
 
 use crate::index_told::line_of_checked;
-use crate::inputs::unfit_index;
+use crate::stamps::unfit_index;
 use ann_shelf::{Out, Shelf};
 use annbuild_lines::Fault;
 use annbuild_words::{Request, Role};
@@ -33,13 +33,14 @@ fn read_both<F: Shelf>(
     request: &Request<'_>,
     shelf: &mut F,
 ) -> Result<Checked, Fault>
-    ensures points { IfOk result (λ x. IfSome (F.shown shelf.old).held (λ files. AreOf roles.Base (bytes_of files request.now.names.first.now) x.points)) }
+    ensures points { IfOk result (λ x. IfSome (F.shown shelf.old).held (λ files. AreOf roles.Base request.now.settings.element (bytes_of files request.now.names.first.now) x.points)) }
     ensures index { IfOk result (λ x. IfSome (F.shown shelf.old).held (λ files. IsOf roles.Index (bytes_of files request.now.names.second.now) (contents x.index))) }
     ensures well_formed { IfOk result (λ x. IsWellFormed (contents x.index)) }
-    ensures read { OnOk result (HaveRead (checking request.now.names.first.now request.now.names.second.now).reads (F.shown shelf.old) (F.shown shelf.new)) }
-    ensures failed { IfErr result (λ fault. (had : Got) → Ends (checking request.now.names.first.now request.now.names.second.now) (F.shown shelf.old) (F.shown shelf.new) had had (Some fault)) }
+    ensures read { OnOk result (HaveRead (checking request.now.names.first.now request.now.names.second.now request.now.settings).reads (F.shown shelf.old) (F.shown shelf.new)) }
+    ensures failed { IfErr result (λ fault. (had : Got) → Ends (checking request.now.names.first.now request.now.names.second.now request.now.settings) (F.shown shelf.old) (F.shown shelf.new) had had (Some fault)) }
 {
-    let points = read_points_of(alloc, shelf, Role::Base, request.names.first)?;
+    let element = request.settings.element;
+    let points = read_points_of(alloc, shelf, Role::Base, request.names.first, element)?;
     let index = read_index_of(alloc, shelf, Role::Index, request.names.second)?;
     Ok(Checked { points, index })
 }
@@ -50,12 +51,12 @@ fn read_fitting<F: Shelf>(
     request: &Request<'_>,
     shelf: &mut F,
 ) -> Result<Checked, Fault>
-    ensures points { IfOk result (λ x. IfSome (F.shown shelf.old).held (λ files. AreOf roles.Base (bytes_of files request.now.names.first.now) x.points)) }
+    ensures points { IfOk result (λ x. IfSome (F.shown shelf.old).held (λ files. AreOf roles.Base request.now.settings.element (bytes_of files request.now.names.first.now) x.points)) }
     ensures index { IfOk result (λ x. IfSome (F.shown shelf.old).held (λ files. IsOf roles.Index (bytes_of files request.now.names.second.now) (contents x.index))) }
     ensures well_formed { IfOk result (λ x. IsWellFormed (contents x.index)) }
-    ensures fit { IfOk result (λ x. index_unfit x.points.vectors (contents x.index) ≡ None) }
-    ensures read { OnOk result (HaveRead (checking request.now.names.first.now request.now.names.second.now).reads (F.shown shelf.old) (F.shown shelf.new)) }
-    ensures failed { IfErr result (λ fault. (had : Got) → Ends (checking request.now.names.first.now request.now.names.second.now) (F.shown shelf.old) (F.shown shelf.new) had had (Some fault)) }
+    ensures fit { IfOk result (λ x. index_unfit x.points (contents x.index) ≡ None) }
+    ensures read { OnOk result (HaveRead (checking request.now.names.first.now request.now.names.second.now request.now.settings).reads (F.shown shelf.old) (F.shown shelf.new)) }
+    ensures failed { IfErr result (λ fault. (had : Got) → Ends (checking request.now.names.first.now request.now.names.second.now request.now.settings) (F.shown shelf.old) (F.shown shelf.new) had had (Some fault)) }
 {
     let both = read_both(alloc, request, shelf)?;
     match unfit_index(&both.points, &both.index) {
@@ -71,7 +72,7 @@ pub(crate) fn check<F: Shelf, O: Out>(
     shelf: &mut F,
     out: &mut O,
 ) -> Result<(), Fault>
-    ensures { Ends (checking request.now.names.first.now request.now.names.second.now) (F.shown shelf.old) (F.shown shelf.new) (O.got out.old) (O.got out.new) (fault_in result) }
+    ensures { Ends (checking request.now.names.first.now request.now.names.second.now request.now.settings) (F.shown shelf.old) (F.shown shelf.new) (O.got out.old) (O.got out.new) (fault_in result) }
 {
     let both = read_fitting(alloc, request, shelf)?;
     let told = line_of_checked(&both.index);

@@ -9,9 +9,10 @@ ghost use Rattle.ann_shelf.specs.Written.{Got};
 ghost use Rattle.command_shapes.specs.Doing.{Doing};
 ghost use Rattle.command_shapes.specs.Ends.{Ends, HaveRead, OnlyRead};
 ghost use Rattle.command_shapes.specs.Reading.{AreOf, IsOf};
-ghost use Rattle.annbuild_commands.specs.Fitting.{index_unfit, queries_unfit, unfit_in};
+ghost use Rattle.annbuild_commands.specs.Fitting.{queries_unfit, unfit_in};
 ghost use Rattle.annbuild_commands.specs.Querying.{querying};
 
+use crate::stamps::{differs, unfit_index};
 use ann_shelf::Shelf;
 use annbuild_lines::{Fault, What};
 use annbuild_words::{Request, Role};
@@ -28,47 +29,21 @@ pub(crate) struct Inputs {
     pub queries: Points,
 }
 
-/// The first number of an index that doesn't fit the points.
-pub(crate) fn unfit_index(points: &Points, index: &Index) -> Option<Fault>
-    ensures { result ≡ index_unfit points.now.vectors (contents index.now) }
-{
-    if index.count != points.count() {
-        return Some(Fault::Unfit {
-            file: Role::Index,
-            what: What::Count,
-            found: u64::from(index.count),
-            wanted: u64::from(points.count()),
-        });
-    }
-    if index.dim != points.dim() {
-        return Some(Fault::Unfit {
-            file: Role::Index,
-            what: What::Dim,
-            found: u64::from(index.dim),
-            wanted: u64::from(points.dim()),
-        });
-    }
-    None
-}
-
 /// The dimension of queries, where it doesn't fit the points.
 pub(crate) fn unfit_queries(points: &Points, queries: &Points) -> Option<Fault>
     ensures { result ≡ queries_unfit points.now.vectors queries.now.vectors }
 {
-    if queries.dim() == points.dim() {
-        return None;
-    }
-    Some(Fault::Unfit {
-        file: Role::Queries,
-        what: What::Dim,
-        found: u64::from(queries.dim()),
-        wanted: u64::from(points.dim()),
-    })
+    differs(
+        Role::Queries,
+        What::Dim,
+        u64::from(queries.dim()),
+        u64::from(points.dim()),
+    )
 }
 
 /// The first numbers of the three that don't fit together.
 fn unfit(points: &Points, index: &Index, queries: &Points) -> Option<Fault>
-    ensures { result ≡ unfit_in points.now.vectors (contents index.now) queries.now.vectors }
+    ensures { result ≡ unfit_in points.now (contents index.now) queries.now.vectors }
 {
     if let Some(fault) = unfit_index(points, index) {
         return Some(fault);
@@ -82,16 +57,17 @@ fn read_files<F: Shelf>(
     request: &Request<'_>,
     shelf: &mut F,
 ) -> Result<Inputs, Fault>
-    ensures points { IfOk result (λ x. IfSome (F.shown shelf.old).held (λ files. AreOf roles.Base (bytes_of files request.now.names.first.now) x.points)) }
+    ensures points { IfOk result (λ x. IfSome (F.shown shelf.old).held (λ files. AreOf roles.Base request.now.settings.element (bytes_of files request.now.names.first.now) x.points)) }
     ensures index { IfOk result (λ x. IfSome (F.shown shelf.old).held (λ files. IsOf roles.Index (bytes_of files request.now.names.second.now) (contents x.index))) }
-    ensures queries { IfOk result (λ x. IfSome (F.shown shelf.old).held (λ files. AreOf roles.Queries (bytes_of files request.now.names.third.now) x.queries)) }
+    ensures queries { IfOk result (λ x. IfSome (F.shown shelf.old).held (λ files. AreOf roles.Queries request.now.settings.element (bytes_of files request.now.names.third.now) x.queries)) }
     ensures well_formed { IfOk result (λ x. IsWellFormed (contents x.index)) }
     ensures read { OnOk result (HaveRead (querying request.now.names.first.now request.now.names.second.now request.now.names.third.now request.now.settings).reads (F.shown shelf.old) (F.shown shelf.new)) }
     ensures failed { IfErr result (λ fault. (had : Got) → Ends (querying request.now.names.first.now request.now.names.second.now request.now.names.third.now request.now.settings) (F.shown shelf.old) (F.shown shelf.new) had had (Some fault)) }
 {
-    let points = read_points_of(alloc, shelf, Role::Base, request.names.first)?;
+    let element = request.settings.element;
+    let points = read_points_of(alloc, shelf, Role::Base, request.names.first, element)?;
     let index = read_index_of(alloc, shelf, Role::Index, request.names.second)?;
-    let queries = read_points_of(alloc, shelf, Role::Queries, request.names.third)?;
+    let queries = read_points_of(alloc, shelf, Role::Queries, request.names.third, element)?;
     Ok(Inputs {
         points,
         index,
@@ -105,11 +81,11 @@ pub(crate) fn read_inputs<F: Shelf>(
     request: &Request<'_>,
     shelf: &mut F,
 ) -> Result<Inputs, Fault>
-    ensures points { IfOk result (λ x. IfSome (F.shown shelf.old).held (λ files. AreOf roles.Base (bytes_of files request.now.names.first.now) x.points)) }
+    ensures points { IfOk result (λ x. IfSome (F.shown shelf.old).held (λ files. AreOf roles.Base request.now.settings.element (bytes_of files request.now.names.first.now) x.points)) }
     ensures index { IfOk result (λ x. IfSome (F.shown shelf.old).held (λ files. IsOf roles.Index (bytes_of files request.now.names.second.now) (contents x.index))) }
-    ensures queries { IfOk result (λ x. IfSome (F.shown shelf.old).held (λ files. AreOf roles.Queries (bytes_of files request.now.names.third.now) x.queries)) }
+    ensures queries { IfOk result (λ x. IfSome (F.shown shelf.old).held (λ files. AreOf roles.Queries request.now.settings.element (bytes_of files request.now.names.third.now) x.queries)) }
     ensures well_formed { IfOk result (λ x. IsWellFormed (contents x.index)) }
-    ensures fit { IfOk result (λ x. unfit_in x.points.vectors (contents x.index) x.queries.vectors ≡ None) }
+    ensures fit { IfOk result (λ x. unfit_in x.points (contents x.index) x.queries.vectors ≡ None) }
     ensures read { OnOk result (HaveRead (querying request.now.names.first.now request.now.names.second.now request.now.names.third.now request.now.settings).reads (F.shown shelf.old) (F.shown shelf.new)) }
     ensures failed { IfErr result (λ fault. (had : Got) → Ends (querying request.now.names.first.now request.now.names.second.now request.now.names.third.now request.now.settings) (F.shown shelf.old) (F.shown shelf.new) had had (Some fault)) }
 {

@@ -21,6 +21,7 @@ mod make;
 mod plain;
 mod query;
 mod request;
+mod stamps;
 mod summed;
 mod told;
 mod top;

@@ -7,6 +7,8 @@ ghost use Rattle.command_options.specs.Settings.{IsInRange};
 ghost use Rattle.command_options.specs.declared.verb.Verb.TheVariants as verbs;
 ghost use Rattle.annbuild_lines.specs.declared.fault.Fault.TheVariants.{NoMemory as NoMemoryFault};
 ghost use Rattle.command_shapes.specs.Ends.{Ends, fault_in};
+ghost use Rattle.graph_rows.specs.Stamps.{stamped};
+ghost use Rattle.graph_rows.specs.View.{contents};
 ghost use Rattle.index_build.specs.IndexOf.{vamana_words};
 ghost use Rattle.annbuild_commands.specs.Living.{living, telling, AreAsked, IsSession};
 
@@ -17,13 +19,24 @@ use ann_shelf::{Gate, NoMemory, Out, Shelf};
 use annbuild_lines::{Fault, batch_line_bytes};
 use annbuild_words::{Request, Role, Settings};
 use command_shapes::{PIECE, store};
-use index_build::{pool_for, settings_for_vamana};
+use graph_rows::Stamp;
+use index_build::{pool_for, settings_for_vamana, stamp_for};
 use live_session::{Asking, Session, build_beside_callers};
 use std::alloc::Global;
 use std::sync::Wait;
 use std::thread::Threads;
 use steal_pool::Rounds;
 use vamana_build::Plan;
+
+/// A session whose index has a stamp, or none.
+fn marked(mut session: Session, stamp: Option<Stamp>) -> Session
+    ensures index { contents result.index ≡ stamped stamp (contents session.index) }
+    ensures live { result.live ≡ session.live }
+    ensures last { result.last ≡ session.last }
+{
+    session.index.stamp = stamp;
+    session
+}
 
 /// Builds the index on a pool while callers ask.
 fn session_on<R: Threads + Wait + Sync, P: Rounds, G: Gate + Sync>(
@@ -39,7 +52,7 @@ fn session_on<R: Threads + Wait + Sync, P: Rounds, G: Gate + Sync>(
     requires words { vamana_words (length inputs.now.points.vectors) options.now ≤ MAX_WORDS }
     requires answers { length inputs.now.queries.vectors * options.now.k ≤ MAX_ANSWERS }
     requires workers { (1 ≤ P.count pool.old) × (P.count pool.old ≤ 64) }
-    ensures { IfOk result (IsSession inputs.now.points.vectors inputs.now.queries.vectors options.now) }
+    ensures { IfOk result (IsSession inputs.now.points inputs.now.queries.vectors options.now) }
 {
     let plan = Plan::make(alloc, &inputs.points, settings_for_vamana(options))?;
     let asking = Asking {
@@ -48,7 +61,8 @@ fn session_on<R: Threads + Wait + Sync, P: Rounds, G: Gate + Sync>(
         k: options.k,
         callers: options.callers,
     };
-    build_beside_callers(rt, alloc, &plan, asking, pool, gate)
+    let session = build_beside_callers(rt, alloc, &plan, asking, pool, gate)?;
+    Ok(marked(session, stamp_for(&inputs.points, options)))
 }
 
 /// A session, and room for the lines of its answers.
@@ -72,7 +86,7 @@ fn make_session<R: Threads + Wait + Sync, G: Gate + Sync>(
     requires words { vamana_words (length inputs.now.points.vectors) options.now ≤ MAX_WORDS }
     requires answers { length inputs.now.queries.vectors * options.now.k ≤ MAX_ANSWERS }
     requires asked { ArePoints inputs.now.queries.vectors }
-    ensures session { IfOk result (λ h. IsSession inputs.now.points.vectors inputs.now.queries.vectors options.now h.session) }
+    ensures session { IfOk result (λ h. IsSession inputs.now.points inputs.now.queries.vectors options.now h.session) }
     ensures asked { IfOk result (λ h. AreAsked options.now h.session) }
     ensures room { IfOk result (λ h. 22 * options.now.k + 27 ≤ vec_capacity h.buffer) }
 {
@@ -96,7 +110,7 @@ fn session_for<R: Threads + Wait + Sync, G: Gate + Sync>(
     requires words { vamana_words (length inputs.now.points.vectors) options.now ≤ MAX_WORDS }
     requires answers { length inputs.now.queries.vectors * options.now.k ≤ MAX_ANSWERS }
     requires asked { ArePoints inputs.now.queries.vectors }
-    ensures session { IfOk result (λ h. IsSession inputs.now.points.vectors inputs.now.queries.vectors options.now h.session) }
+    ensures session { IfOk result (λ h. IsSession inputs.now.points inputs.now.queries.vectors options.now h.session) }
     ensures asked { IfOk result (λ h. AreAsked options.now h.session) }
     ensures room { IfOk result (λ h. 22 * options.now.k + 27 ≤ vec_capacity h.buffer) }
     ensures failed { IfErr result (λ fault. fault ≡ NoMemoryFault) }
@@ -123,7 +137,7 @@ fn told_live<R: Threads + Wait + Sync, F: Shelf, O: Out, G: Gate + Sync>(
     requires words { vamana_words (length inputs.now.points.vectors) options.now ≤ MAX_WORDS }
     requires answers { length inputs.now.queries.vectors * options.now.k ≤ MAX_ANSWERS }
     requires asked { ArePoints inputs.now.queries.vectors }
-    ensures { Ends (telling inputs.now.points.vectors inputs.now.queries.vectors name.now options.now) (F.shown shelf.old) (F.shown shelf.new) (O.got out.old) (O.got out.new) (fault_in result) }
+    ensures { Ends (telling inputs.now.points inputs.now.queries.vectors name.now options.now) (F.shown shelf.old) (F.shown shelf.new) (O.got out.old) (O.got out.new) (fault_in result) }
 {
     let Heard {
         session,

@@ -37,14 +37,15 @@ fn read_both<F: Shelf>(
     request: &Request<'_>,
     shelf: &mut F,
 ) -> Result<LiveInputs, Fault>
-    ensures points { IfOk result (λ x. IfSome (F.shown shelf.old).held (λ files. AreOf roles.Base (bytes_of files request.now.names.first.now) x.points)) }
-    ensures queries { IfOk result (λ x. IfSome (F.shown shelf.old).held (λ files. AreOf roles.Queries (bytes_of files request.now.names.third.now) x.queries)) }
+    ensures points { IfOk result (λ x. IfSome (F.shown shelf.old).held (λ files. AreOf roles.Base request.now.settings.element (bytes_of files request.now.names.first.now) x.points)) }
+    ensures queries { IfOk result (λ x. IfSome (F.shown shelf.old).held (λ files. AreOf roles.Queries request.now.settings.element (bytes_of files request.now.names.third.now) x.queries)) }
     ensures asked { IfOk result (λ x. ArePoints x.queries.vectors) }
     ensures read { OnOk result (HaveRead (living request.now.names.first.now request.now.names.second.now request.now.names.third.now request.now.settings).reads (F.shown shelf.old) (F.shown shelf.new)) }
     ensures failed { IfErr result (λ fault. (had : Got) → Ends (living request.now.names.first.now request.now.names.second.now request.now.names.third.now request.now.settings) (F.shown shelf.old) (F.shown shelf.new) had had (Some fault)) }
 {
-    let points = read_points_of(alloc, shelf, Role::Base, request.names.first)?;
-    let queries = read_points_of(alloc, shelf, Role::Queries, request.names.third)?;
+    let element = request.settings.element;
+    let points = read_points_of(alloc, shelf, Role::Base, request.names.first, element)?;
+    let queries = read_points_of(alloc, shelf, Role::Queries, request.names.third, element)?;
     Ok(LiveInputs { points, queries })
 }
 
@@ -82,8 +83,8 @@ pub(crate) fn read_live<F: Shelf>(
     shelf: &mut F,
 ) -> Result<LiveInputs, Fault>
     requires { IsInRange verbs.Live request.now.settings }
-    ensures points { IfOk result (λ x. IfSome (F.shown shelf.old).held (λ files. AreOf roles.Base (bytes_of files request.now.names.first.now) x.points)) }
-    ensures queries { IfOk result (λ x. IfSome (F.shown shelf.old).held (λ files. AreOf roles.Queries (bytes_of files request.now.names.third.now) x.queries)) }
+    ensures points { IfOk result (λ x. IfSome (F.shown shelf.old).held (λ files. AreOf roles.Base request.now.settings.element (bytes_of files request.now.names.first.now) x.points)) }
+    ensures queries { IfOk result (λ x. IfSome (F.shown shelf.old).held (λ files. AreOf roles.Queries request.now.settings.element (bytes_of files request.now.names.third.now) x.queries)) }
     ensures asked { IfOk result (λ x. ArePoints x.queries.vectors) }
     ensures dim { IfOk result (λ x. dim_of x.queries.vectors ≡ dim_of x.points.vectors) }
     ensures words { IfOk result (λ x. vamana_words (length x.points.vectors) request.now.settings ≤ MAX_WORDS) }

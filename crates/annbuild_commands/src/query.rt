@@ -51,7 +51,7 @@ fn answered<R: Threads + Sync, O: Out, G: Gate + Sync>(
 ) -> Result<(), Fault>
     requires options { IsInRange verbs.Query options.now }
     requires well_formed { IsWellFormed (contents inputs.now.index) }
-    requires fit { unfit_in inputs.now.points.vectors (contents inputs.now.index) inputs.now.queries.vectors ≡ None }
+    requires fit { unfit_in inputs.now.points (contents inputs.now.index) inputs.now.queries.vectors ≡ None }
     ensures { Printed (lines_from 0 (answers_of inputs.now.points.vectors (contents inputs.now.index) options.now.search options.now.k inputs.now.queries.vectors)) (O.got out.old) (O.got out.new) (fault_in result) }
 {
     let batch = QueryBatch::new(

@@ -52,10 +52,10 @@ returns-clause-index g c =
     let first = c.args.request.now.names.first.now in
     let points = c.in_ok-points.points in
     let old = g.F.Shelf.shown c.args.shelf.now in
-    both_ok c.index_for.result (words_refusal (words_of (length points.vectors) o) ≡ None) (λ i. contents i ≡ index_of points.vectors o) (λ i. IfSome old.held (λ files. IsIndexOf (bytes_of files first) o (contents i)))
+    both_ok c.index_for.result (words_refusal (words_of (length points.vectors) o) ≡ None) (λ i. contents i ≡ index_of points o) (λ i. IfSome old.held (λ files. IsIndexOf (bytes_of files first) o (contents i)))
     (λ i fits is. told_then old.held c.in_ok-points.ensures.points (λ files of. record {
       accepted = of.accepted;
       fits = ap (λ (X : PointSet). words_refusal (words_of (length X.vectors) o)) (sym of.points_are) ∙ fits;
-      meant = points_text Base (bytes_of files first) points of;
-      index_is = is ∙ ap (λ (X : PointSet). index_of X.vectors o) of.points_are;
+      meant = points_text Base o.element (bytes_of files first) points of;
+      index_is = is ∙ ap (λ (X : PointSet). index_of X o) of.points_are;
     })) c.index_for.ensures.fits c.index_for.ensures.index

@@ -9,7 +9,7 @@ use Rattle.annbuild_commands.proofs.CheckFacts.{check_leads}
 use Rattle.annbuild_commands.proofs.check.check.Goals as goal
 
 pub returns-in_err-both : goal.returns-in_err-both
-returns-in_err-both g c = subst (Ends (checking c.args.request.now.names.first.now c.args.request.now.names.second.now) (g.F.Shelf.shown c.args.shelf.now) (g.F.Shelf.shown c.read_fitting.new.shelf) (g.O.Out.got c.args.out.now) (g.O.Out.got c.args.out.now)) (fault_passed c.from_residual.result _ c.from_residual.ensures.1) (c.in_err-both.ensures.failed (g.O.Out.got c.args.out.now))
+returns-in_err-both g c = subst (Ends (checking c.args.request.now.names.first.now c.args.request.now.names.second.now c.args.request.now.settings) (g.F.Shelf.shown c.args.shelf.now) (g.F.Shelf.shown c.read_fitting.new.shelf) (g.O.Out.got c.args.out.now) (g.O.Out.got c.args.out.now)) (fault_passed c.from_residual.result _ c.from_residual.ensures.1) (c.in_err-both.ensures.failed (g.O.Out.got c.args.out.now))
 
 pub returns : goal.returns
 returns g c =
@@ -18,8 +18,8 @@ returns g c =
     let had = g.O.Out.got c.args.out.now in
     let got = g.O.Out.got c.print.new.out in
     let line = c.as_slice.result.now in
-    after_reading (checking c.args.request.now.names.first.now c.args.request.now.names.second.now) None (λ run. true) (λ run. line ∷ []) old new new had got (fault_in c.print.result)
-    (check_leads old.held c.args.request.now.names.first.now c.args.request.now.names.second.now c.in_ok-both.both.points (contents c.in_ok-both.both.index) line
+    after_reading (checking c.args.request.now.names.first.now c.args.request.now.names.second.now c.args.request.now.settings) None (λ run. true) (λ run. line ∷ []) old new new had got (fault_in c.print.result)
+    (check_leads old.held c.args.request.now.names.first.now c.args.request.now.names.second.now c.args.request.now.settings c.in_ok-both.both.points (contents c.in_ok-both.both.index) line
     c.in_ok-both.ensures.points c.in_ok-both.ensures.index c.in_ok-both.ensures.read.accepted c.in_ok-both.ensures.fit (c.as_slice.ensures.value ∙ c.line_of_checked-told.ensures))
     c.in_ok-both.ensures.read.only (λ rose role h. h)
     (then_printed None (line ∷ []) new new had got (fault_in c.print.result) (told_here new.held (λ files e. e)) (λ files e. inl refl) c.print.ensures.printed)

@@ -12,12 +12,12 @@ use Rattle.annbuild_commands.specs.Checking.{checking}
 use Rattle.annbuild_commands.proofs.check.read_both.Goals as goal
 
 pub returns-in_err-points-clause-failed : goal.returns-in_err-points-clause-failed
-returns-in_err-points-clause-failed g c = on_fault c.from_residual.result _ (λ fault. (had : Got) → Ends (checking c.args.request.now.names.first.now c.args.request.now.names.second.now) (g.F.Shelf.shown c.args.shelf.now) (g.F.Shelf.shown c.read_points_of.new.shelf) had had (Some fault)) c.from_residual.ensures.1
-    (λ had. fails_at (checking c.args.request.now.names.first.now c.args.request.now.names.second.now) [] ((index_read Index c.args.request.now.names.second.now) ∷ []) (points_read Base c.args.request.now.names.first.now) refl (g.F.Shelf.shown c.args.shelf.now) (g.F.Shelf.shown c.args.shelf.now) (g.F.Shelf.shown c.read_points_of.new.shelf) had _ (none_read (g.F.Shelf.shown c.args.shelf.now)) c.in_err-points.ensures.failed)
+returns-in_err-points-clause-failed g c = on_fault c.from_residual.result _ (λ fault. (had : Got) → Ends (checking c.args.request.now.names.first.now c.args.request.now.names.second.now c.args.request.now.settings) (g.F.Shelf.shown c.args.shelf.now) (g.F.Shelf.shown c.read_points_of.new.shelf) had had (Some fault)) c.from_residual.ensures.1
+    (λ had. fails_at (checking c.args.request.now.names.first.now c.args.request.now.names.second.now c.args.request.now.settings) [] ((index_read Index c.args.request.now.names.second.now) ∷ []) (points_read Base c.args.request.now.names.first.now) refl (g.F.Shelf.shown c.args.shelf.now) (g.F.Shelf.shown c.args.shelf.now) (g.F.Shelf.shown c.read_points_of.new.shelf) had _ (none_read (g.F.Shelf.shown c.args.shelf.now)) c.in_err-points.ensures.failed)
 
 pub returns-in_err-index-clause-failed : goal.returns-in_err-index-clause-failed
-returns-in_err-index-clause-failed g c = on_fault c.from_residual-in_err-index.result _ (λ fault. (had : Got) → Ends (checking c.args.request.now.names.first.now c.args.request.now.names.second.now) (g.F.Shelf.shown c.args.shelf.now) (g.F.Shelf.shown c.read_index_of.new.shelf) had had (Some fault)) c.from_residual-in_err-index.ensures.1
-    (λ had. fails_at (checking c.args.request.now.names.first.now c.args.request.now.names.second.now) ((points_read Base c.args.request.now.names.first.now) ∷ []) [] (index_read Index c.args.request.now.names.second.now) refl (g.F.Shelf.shown c.args.shelf.now) (g.F.Shelf.shown c.read_points_of.new.shelf) (g.F.Shelf.shown c.read_index_of.new.shelf) had _ c.in_ok-points.ensures.read c.in_err-index.ensures.failed)
+returns-in_err-index-clause-failed g c = on_fault c.from_residual-in_err-index.result _ (λ fault. (had : Got) → Ends (checking c.args.request.now.names.first.now c.args.request.now.names.second.now c.args.request.now.settings) (g.F.Shelf.shown c.args.shelf.now) (g.F.Shelf.shown c.read_index_of.new.shelf) had had (Some fault)) c.from_residual-in_err-index.ensures.1
+    (λ had. fails_at (checking c.args.request.now.names.first.now c.args.request.now.names.second.now c.args.request.now.settings) ((points_read Base c.args.request.now.names.first.now) ∷ []) [] (index_read Index c.args.request.now.names.second.now) refl (g.F.Shelf.shown c.args.shelf.now) (g.F.Shelf.shown c.read_points_of.new.shelf) (g.F.Shelf.shown c.read_index_of.new.shelf) had _ c.in_ok-points.ensures.read c.in_err-index.ensures.failed)
 
 pub returns-clause-index : goal.returns-clause-index
 returns-clause-index g c = subst (λ h. IfSome h (λ files. IsOf Index (bytes_of files c.args.request.now.names.second.now) (contents c.in_ok-index.index))) c.in_ok-points.ensures.read.only.held c.in_ok-index.ensures.index

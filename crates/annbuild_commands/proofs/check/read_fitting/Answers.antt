@@ -11,12 +11,12 @@ use Rattle.annbuild_commands.proofs.Fits.{index_only, index_unfit_read}
 use Rattle.annbuild_commands.proofs.check.read_fitting.Goals as goal
 
 pub returns-in_err-both-clause-failed : goal.returns-in_err-both-clause-failed
-returns-in_err-both-clause-failed g c = on_fault c.from_residual.result _ (λ fault. (had : Got) → Ends (checking c.args.request.now.names.first.now c.args.request.now.names.second.now) (g.F.Shelf.shown c.args.shelf.now) (g.F.Shelf.shown c.read_both.new.shelf) had had (Some fault)) c.from_residual.ensures.1 c.in_err-both.ensures.failed
+returns-in_err-both-clause-failed g c = on_fault c.from_residual.result _ (λ fault. (had : Got) → Ends (checking c.args.request.now.names.first.now c.args.request.now.names.second.now c.args.request.now.settings) (g.F.Shelf.shown c.args.shelf.now) (g.F.Shelf.shown c.read_both.new.shelf) had had (Some fault)) c.from_residual.ensures.1 c.in_err-both.ensures.failed
 
 pub returns-in-Some-clause-failed : goal.returns-in-Some-clause-failed
 returns-in-Some-clause-failed g c had =
     let X = c.in_ok-both.both.points in
     let i = contents c.in_ok-both.both.index in
-    fails_rest (checking c.args.request.now.names.first.now c.args.request.now.names.second.now) (g.F.Shelf.shown c.args.shelf.now) (g.F.Shelf.shown c.read_both.new.shelf) had c.in-Some.fault (index_only X.vectors i c.in-Some.fault (sym c.in-Some.ensures)) c.in_ok-both.ensures.read
+    fails_rest (checking c.args.request.now.names.first.now c.args.request.now.names.second.now c.args.request.now.settings) (g.F.Shelf.shown c.args.shelf.now) (g.F.Shelf.shown c.read_both.new.shelf) had c.in-Some.fault (index_only X i c.in-Some.fault (sym c.in-Some.ensures)) c.in_ok-both.ensures.read
     (both_told (g.F.Shelf.shown c.args.shelf.now).held (g.F.Shelf.shown c.args.shelf.now).held refl c.in_ok-both.ensures.points c.in_ok-both.ensures.index (λ files of is.
-    index_unfit_read (bytes_of files c.args.request.now.names.first.now) (bytes_of files c.args.request.now.names.second.now) X i of is ∙ sym c.in-Some.ensures))
+    index_unfit_read c.args.request.now.settings.element (bytes_of files c.args.request.now.names.first.now) (bytes_of files c.args.request.now.names.second.now) X i of is ∙ sym c.in-Some.ensures))

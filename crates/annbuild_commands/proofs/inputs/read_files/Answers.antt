@@ -27,7 +27,7 @@ pub returns-clause-index : goal.returns-clause-index
 returns-clause-index g c = subst (λ h. IfSome h (λ files. IsOf Index (bytes_of files c.args.request.now.names.second.now) (contents c.in_ok-index.index))) c.in_ok-points.ensures.read.only.held c.in_ok-index.ensures.index
 
 pub returns-clause-queries : goal.returns-clause-queries
-returns-clause-queries g c = subst (λ h. IfSome h (λ files. AreOf Queries (bytes_of files c.args.request.now.names.third.now) c.in_ok-queries.queries)) (c.in_ok-index.ensures.read.only.held ∙ c.in_ok-points.ensures.read.only.held) c.in_ok-queries.ensures.points
+returns-clause-queries g c = subst (λ h. IfSome h (λ files. AreOf Queries c.args.request.now.settings.element (bytes_of files c.args.request.now.names.third.now) c.in_ok-queries.queries)) (c.in_ok-index.ensures.read.only.held ∙ c.in_ok-points.ensures.read.only.held) c.in_ok-queries.ensures.points
 
 pub returns-clause-read : goal.returns-clause-read
 returns-clause-read g c = have_both ((points_read Base c.args.request.now.names.first.now) ∷ (index_read Index c.args.request.now.names.second.now) ∷ []) ((points_read Queries c.args.request.now.names.third.now) ∷ []) (g.F.Shelf.shown c.args.shelf.now) (g.F.Shelf.shown c.read_index_of.new.shelf) (g.F.Shelf.shown c.read_points_of-2.new.shelf) (have_both ((points_read Base c.args.request.now.names.first.now) ∷ []) ((index_read Index c.args.request.now.names.second.now) ∷ []) (g.F.Shelf.shown c.args.shelf.now) (g.F.Shelf.shown c.read_points_of.new.shelf) (g.F.Shelf.shown c.read_index_of.new.shelf) c.in_ok-points.ensures.read c.in_ok-index.ensures.read) c.in_ok-queries.ensures.read

@@ -20,8 +20,8 @@ returns-in-Some-clause-failed g c had =
     let X = c.in_ok-inputs.inputs.points in
     let i = contents c.in_ok-inputs.inputs.index in
     let Q = c.in_ok-inputs.inputs.queries in
-    fails_rest (querying c.args.request.now.names.first.now c.args.request.now.names.second.now c.args.request.now.names.third.now c.args.request.now.settings) (g.F.Shelf.shown c.args.shelf.now) (g.F.Shelf.shown c.read_files.new.shelf) had c.in-Some.fault (unfit_only X.vectors i Q.vectors c.in-Some.fault (sym c.in-Some.ensures)) c.in_ok-inputs.ensures.read
+    fails_rest (querying c.args.request.now.names.first.now c.args.request.now.names.second.now c.args.request.now.names.third.now c.args.request.now.settings) (g.F.Shelf.shown c.args.shelf.now) (g.F.Shelf.shown c.read_files.new.shelf) had c.in-Some.fault (unfit_only X i Q.vectors c.in-Some.fault (sym c.in-Some.ensures)) c.in_ok-inputs.ensures.read
     (both_told (g.F.Shelf.shown c.args.shelf.now).held (g.F.Shelf.shown c.args.shelf.now).held refl
-    (both_pair (λ files. AreOf Base (bytes_of files c.args.request.now.names.first.now) X) (λ files. IsOf Index (bytes_of files c.args.request.now.names.second.now) i) (g.F.Shelf.shown c.args.shelf.now).held (g.F.Shelf.shown c.args.shelf.now).held refl c.in_ok-inputs.ensures.points c.in_ok-inputs.ensures.index)
+    (both_pair (λ files. AreOf Base c.args.request.now.settings.element (bytes_of files c.args.request.now.names.first.now) X) (λ files. IsOf Index (bytes_of files c.args.request.now.names.second.now) i) (g.F.Shelf.shown c.args.shelf.now).held (g.F.Shelf.shown c.args.shelf.now).held refl c.in_ok-inputs.ensures.points c.in_ok-inputs.ensures.index)
     c.in_ok-inputs.ensures.queries (λ files both of.
-    unfit_read (bytes_of files c.args.request.now.names.first.now) (bytes_of files c.args.request.now.names.second.now) (bytes_of files c.args.request.now.names.third.now) X Q i both.0 both.1 of ∙ sym c.in-Some.ensures))
+    unfit_read c.args.request.now.settings (bytes_of files c.args.request.now.names.first.now) (bytes_of files c.args.request.now.names.second.now) (bytes_of files c.args.request.now.names.third.now) X Q i both.0 both.1 of ∙ sym c.in-Some.ensures))

@@ -23,7 +23,7 @@ returns g c =
     let X = c.in_ok-inputs.inputs.points in
     let Q = c.in_ok-inputs.inputs.queries in
     let old = g.F.Shelf.shown c.args.shelf.now in
-    after_reading (living names.first.now names.second.now names.third.now o) (Some (stored_as Index names.second.now (file_of (index_of X.vectors o)))) (may_run X.vectors Q.vectors o) (live_pieces X.vectors Q.vectors o)
+    after_reading (living names.first.now names.second.now names.third.now o) (Some (stored_as Index names.second.now (file_of (index_of X o)))) (may_run X.vectors Q.vectors o) (live_pieces X Q.vectors o)
     old (g.F.Shelf.shown c.read_live.new.shelf) (g.F.Shelf.shown c.told_live.new.shelf) (g.O.Out.got c.args.out.now) (g.O.Out.got c.told_live.new.out) (fault_in c.told_live.result)
     (live_leads old.held names.first.now names.second.now names.third.now X Q o c.in_ok-inputs.ensures.points c.in_ok-inputs.ensures.queries c.in_ok-inputs.ensures.read.accepted c.in_ok-inputs.ensures.fit)
     c.in_ok-inputs.ensures.read.only (λ rose role h. h) c.told_live.ensures

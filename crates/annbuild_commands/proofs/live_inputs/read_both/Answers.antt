@@ -27,7 +27,7 @@ returns-in_err-queries-clause-failed g c =
     (λ had. fails_at doing (points_read Base names.first.now ∷ []) [] (points_read Queries names.third.now) refl old (g.F.Shelf.shown c.read_points_of.new.shelf) (g.F.Shelf.shown c.read_points_of-2.new.shelf) had _ c.in_ok-points.ensures.read c.in_err-queries.ensures.failed)
 
 pub returns-clause-queries : goal.returns-clause-queries
-returns-clause-queries g c = subst (λ h. IfSome h (λ files. AreOf Queries (bytes_of files c.args.request.now.names.third.now) c.in_ok-queries.queries)) c.in_ok-points.ensures.read.only.held c.in_ok-queries.ensures.points
+returns-clause-queries g c = subst (λ h. IfSome h (λ files. AreOf Queries c.args.request.now.settings.element (bytes_of files c.args.request.now.names.third.now) c.in_ok-queries.queries)) c.in_ok-points.ensures.read.only.held c.in_ok-queries.ensures.points
 
 pub returns-clause-read : goal.returns-clause-read
 returns-clause-read g c =
