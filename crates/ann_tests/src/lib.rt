@@ -15,3 +15,7 @@ mod live_gates;
 mod made;
 #[cfg(test)]
 mod query;
+#[cfg(test)]
+mod signed;
+#[cfg(test)]
+mod stamps;

@@ -16,7 +16,7 @@ const OF_FOUR_BY_FOUR: [Edit; 15] = [
     ),
     (
         4,
-        2,
+        3,
         5,
         b"annbuild: index is malformed at byte 4: version\n",
     ),

@@ -30,5 +30,9 @@ pub const FOUR_IN_TWO_LAYERS: &[u8] =
 pub const FOUR_IN_LISTS: &[u8] =
     b"PANN\x01\0\0\0\x03\0\0\0\x04\0\0\0\x01\0\0\0\x02\0\0\0\0\0\0\0\x01\0\0\0\x01\0\0\0\x01\0\0\0\x02\0\0\0\0\0\0\0\x02\0\0\0\x02\0\0\0\x01\0\0\0\x03\0\0\0\x01\0\0\0\x02\0\0\0";
 
+/// [`FOUR_BY_FOUR`] in version 2, with its stamp.
+pub const FOUR_STAMPED: &[u8] =
+    b"PANN\x02\0\0\0\x01\0\0\0\x04\0\0\0\x01\0\0\0\x02\0\0\0\0\0\0\0\x01\0\0\0\x01\0\0\0\x01\0\0\0\x01\0\0\0\x04\0\0\0\x01\0\0\0\x01\0\0\0\x04\0\0\0\0\0\0\0\0\0\0\0\0\0\0\0\0\0\0\0\0\0\0\0\0\0\0\0\x01\0\0\0\0\0\0\0\0\0\0\0\0\0\0\0\0\0\0\0\x01\x07\xed\xb8\xbf\x12\xa2\x0c\x27\x57\x48\xc8\x7e\x5c\x28\x46\xcb\xe0\xf9\xe0\x5e\xec\x24\x48\x6c\x8c\xfe\x0e\xd4\x77\x37\x47\x01\0\0\0\x01\0\0\0\x02\0\0\0\0\0\0\0\x02\0\0\0\x01\0\0\0\x01\0\0\0\x01\0\0\0\x01\0\0\0";
+
 /// The settings of [`FOUR_BY_FOUR`] and [`FOUR_BY_ONE`] but for the cap.
 pub const FOUR_LINE: &[u8] = b"built vamana count 4 dim 1 degree 2 start 0 layers 1 edges 5\n";

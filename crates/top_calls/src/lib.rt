@@ -9,6 +9,6 @@ mod runs;
 pub use calls::{Failing, NONE, Outcome, call, call_at, words_in};
 pub use files::{
     FOUR, FOUR_BY_FOUR, FOUR_BY_ONE, FOUR_IN_LISTS, FOUR_IN_ONE_LAYER, FOUR_IN_TWO_LAYERS,
-    FOUR_LINE, FOUR_WIDE,
+    FOUR_LINE, FOUR_STAMPED, FOUR_WIDE,
 };
 pub use runs::{ASKED, RUNS, Run};

@@ -1,7 +1,8 @@
 //! One run of every command and kind of index, with what it leaves and prints. The bytes and lines are those of the worked
 //! files and of an independent program that follows docs/DEFINITIONS.md.
 use crate::{
-    FOUR, FOUR_BY_FOUR, FOUR_IN_LISTS, FOUR_IN_TWO_LAYERS, FOUR_LINE, Failing, Outcome, call,
+    FOUR, FOUR_BY_FOUR, FOUR_IN_LISTS, FOUR_IN_TWO_LAYERS, FOUR_LINE, FOUR_STAMPED, Failing,
+    Outcome, call,
 };
 use ann_shelf::NoMemory;
 use std::alloc::Global;
@@ -33,7 +34,7 @@ const ONE: &[u8] = b"\x01\0\0\0\x01\0\0\0\x07";
 const OLD: &[u8] = b"an older index";
 
 /// The runs.
-pub const RUNS: [Run; 14] = [
+pub const RUNS: [Run; 17] = [
     Run {
         words: "build pts ann --order file --start first --degree 2 --beam 4 --alpha 1/1 --cap 4",
         pts: FOUR,
@@ -113,6 +114,33 @@ pub const RUNS: [Run; 14] = [
         pts_after: FOUR,
         ann_after: FOUR_IN_LISTS,
         out: b"ok nnd count 4 dim 1 degree 2 start 0 layers 1 edges 6 longest 2\n",
+        last: 2,
+    },
+    Run {
+        words: "build pts ann --order file --start first --degree 2 --beam 4 --alpha 1/1 --cap 4 --format 2",
+        pts: FOUR,
+        ann: OLD,
+        pts_after: FOUR,
+        ann_after: FOUR_STAMPED,
+        out: FOUR_LINE,
+        last: 4,
+    },
+    Run {
+        words: "query pts ann ask --search 4 --k 2",
+        pts: FOUR,
+        ann: FOUR_STAMPED,
+        pts_after: FOUR,
+        ann_after: FOUR_STAMPED,
+        out: b"0 1:4 2:64\n1 2:100 1:400\n",
+        last: 3,
+    },
+    Run {
+        words: "check pts ann",
+        pts: FOUR,
+        ann: FOUR_STAMPED,
+        pts_after: FOUR,
+        ann_after: FOUR_STAMPED,
+        out: b"ok vamana count 4 dim 1 degree 2 start 0 layers 1 edges 5 longest 2\n",
         last: 2,
     },
     Run {
