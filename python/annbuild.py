@@ -1,13 +1,15 @@
 """annbuild from Python: arrays in, arrays out.
 
-Points and queries are arrays of bytes, a row for each point. `write_points` and `read_points` go to and from the files
-that the program reads, `load_vectors` reads bvecs, fvecs and npy, `to_bytes` scales floats, `build` and `query` run the
-program, and `load_index` gives the rows of an index as offsets and ids, layer by layer.
+Points and queries are arrays of bytes, signed or not, a row for each point. `write_points` and `read_points` go to and
+from the files that the program reads, `load_vectors` reads bvecs, fvecs and npy, `to_bytes` scales floats, `build` and
+`query` run the program, and `load_index` gives the rows of an index as offsets and ids, layer by layer, and its stamp.
+`digest` is what a stamp keeps of a points file.
 
 A file that isn't well formed raises ValueError with its name, the byte and the rule. Where the program refuses, `build`
 and `query` raise RuntimeError with its status and its line.
 """
 
+import hashlib
 import os
 import subprocess
 from dataclasses import dataclass
@@ -16,6 +18,7 @@ import numpy as np
 
 PROGRAM = os.path.join(os.path.dirname(os.path.abspath(__file__)), os.pardir, "run")
 KINDS = {1: "vamana", 2: "hnsw", 3: "nnd"}
+ELEMENTS = {"u8": np.uint8, "i8": np.int8}
 
 
 def _malformed(path, place, rule):
@@ -25,22 +28,32 @@ def _malformed(path, place, rule):
 # Points
 
 
-def write_points(path, points):
-    """Writes an array of bytes, a row for each point, as a u8bin file."""
+def _element(type):
+    if type not in ELEMENTS:
+        raise ValueError(f"the type is {type!r}, not 'u8' or 'i8'")
+    return np.iinfo(ELEMENTS[type])
+
+
+def write_points(path, points, type="u8"):
+    """Writes an array of whole numbers, a row for each point, as a file of unsigned (u8) or signed (i8) bytes."""
+    element = _element(type)
     points = np.asarray(points)
     if points.ndim != 2 or points.shape[0] == 0 or points.shape[1] == 0:
         raise ValueError(f"points have the shape {points.shape}, not (count, dim)")
-    if points.dtype != np.uint8:
-        if points.dtype.kind not in "iu" or points.min() < 0 or points.max() > 255:
-            raise ValueError("points aren't whole numbers from 0 to 255: scale them with to_bytes")
-        points = points.astype(np.uint8)
+    if points.dtype != element.dtype:
+        if points.dtype.kind not in "iu" or points.min() < element.min or points.max() > element.max:
+            raise ValueError(
+                f"points aren't whole numbers from {element.min} to {element.max}: scale them with to_bytes"
+            )
+        points = points.astype(element.dtype)
     with open(path, "wb") as file:
         file.write(np.array(points.shape, dtype="<u4").tobytes())
         file.write(np.ascontiguousarray(points).tobytes())
 
 
-def read_points(path):
-    """The points of a u8bin file, an array of bytes with a row for each."""
+def read_points(path, type="u8"):
+    """The points of a file of unsigned (u8) or signed (i8) bytes, an array with a row for each."""
+    element = _element(type)
     data = np.fromfile(path, dtype=np.uint8)
     if data.size < 8:
         raise _malformed(path, data.size, "short header")
@@ -53,7 +66,13 @@ def read_points(path):
         raise _malformed(path, data.size, "short body")
     if data.size > 8 + count * dim:
         raise _malformed(path, 8 + count * dim, "trailing")
-    return data[8:].reshape(count, dim)
+    return data[8:].view(element.dtype).reshape(count, dim)
+
+
+def digest(path):
+    """The SHA-256 of a file, as an index's stamp keeps it of the points that it was built from."""
+    with open(path, "rb") as file:
+        return hashlib.sha256(file.read()).digest()
 
 
 def load_vectors(path):
@@ -124,8 +143,35 @@ class Layer:
 
 
 @dataclass(frozen=True)
+class Stamp:
+    """What an index was built from: the settings, 0 where they aren't of its kind, and the digest of its points' file.
+
+    `element` is 1 for u8 and 2 for i8, `order` 1 for the file's and 2 for a seeded one, `start` 1 for the first point and
+    2 for the medoid; alpha is `num / den`, and `cap` the greatest batch that was used.
+    """
+
+    element: int
+    order: int
+    start: int
+    beam: int
+    num: int
+    den: int
+    cap: int
+    bits: int
+    max_level: int
+    list: int
+    trees: int
+    leaf: int
+    rounds: int
+    passes: int
+    seed: int
+    floor: int
+    digest: bytes
+
+
+@dataclass(frozen=True)
 class Index:
-    """An index file: its kind, its numbers, and its layers from layer 0 on."""
+    """An index file: its kind, its numbers, its layers from layer 0 on, and its stamp, None in version 1."""
 
     kind: str
     count: int
@@ -133,6 +179,72 @@ class Index:
     degree: int
     start: int
     layers: list
+    stamp: Stamp = None
+
+    def options(self):
+        """The options with which `build` gives this index again, of the points whose digest the stamp keeps."""
+        stamp = self.stamp
+        if stamp is None:
+            raise ValueError("an index of version 1 doesn't say what it was built from")
+        options = {"kind": self.kind, "degree": self.degree, "seed": stamp.seed, "format": 2}
+        options["type"] = {1: "u8", 2: "i8"}[stamp.element]
+        if stamp.order:
+            options["order"] = {1: "file", 2: "seeded"}[stamp.order]
+        if stamp.start:
+            options["start"] = {1: "first", 2: "medoid"}[stamp.start]
+        if stamp.num:
+            options["alpha"] = f"{stamp.num}/{stamp.den}"
+        for name in _KIND_OPTIONS[self.kind]:
+            options[name] = getattr(stamp, name)
+        return options
+
+
+_KIND_OPTIONS = {
+    "vamana": ("beam", "cap", "passes"),
+    "hnsw": ("beam", "cap", "bits", "max_level"),
+    "nnd": ("list", "trees", "leaf", "rounds", "floor"),
+}
+
+
+def _stamp_ranges(kind, num):
+    """The least and the greatest value of each word of a stamp, in the order of the file."""
+    vamana, hnsw, nnd = kind == 1, kind == 2, kind == 3
+    flat, batches = vamana or nnd, vamana or hnsw
+    return (
+        (1, 2),
+        (1, 2) if batches else (0, 0),
+        (1, 2) if flat else (0, 0),
+        (1, 1024) if batches else (0, 0),
+        (1, 1000) if flat else (0, 0),
+        (1, num) if flat else (0, 0),
+        (1, 4194304) if batches else (0, 0),
+        (1, 8) if hnsw else (0, 0),
+        (0, 15) if hnsw else (0, 0),
+        (1, 128) if nnd else (0, 0),
+        (1, 64) if nnd else (0, 0),
+        (2, 1024) if nnd else (0, 0),
+        (0, 64) if nnd else (0, 0),
+        (1, 2) if vamana else (0, 0),
+    )
+
+
+def _read_stamp(path, kind, data):
+    """The stamp of a version 2 file, of which `data` are the first bytes."""
+    size = len(data)
+    number = lambda at, many: int.from_bytes(data[at : at + many], "little")
+    for field, (least, greatest) in enumerate(_stamp_ranges(kind, number(48, 4))):
+        at = 32 + 4 * field
+        if size < at + 4:
+            raise _malformed(path, size, "short")
+        if not least <= number(at, 4) <= greatest:
+            raise _malformed(path, at, "stamp")
+    for at, many in ((88, 8), (96, 8), (104, 32)):
+        if size < at + many:
+            raise _malformed(path, size, "short")
+        if at == 96 and kind != 3 and number(96, 8) != 0:
+            raise _malformed(path, 96, "stamp")
+    words = [number(at, 4) for at in range(32, 88, 4)]
+    return Stamp(*words, number(88, 8), number(96, 8), bytes(data[104:136]))
 
 
 def load_index(path):
@@ -145,7 +257,7 @@ def load_index(path):
     most_layers = 16 if kind == 2 else 1
     for place, rule, holds in (
         (0, "magic", magic == 0x4E4E4150),
-        (4, "version", version == 1),
+        (4, "version", version in (1, 2)),
         (8, "kind", kind in KINDS),
         (12, "zero count", count > 0),
         (16, "zero dim", dim > 0),
@@ -155,7 +267,11 @@ def load_index(path):
     ):
         if not holds:
             raise _malformed(path, place, rule)
-    reader = _Words(path, words, size)
+    stamp = None
+    if version == 2:
+        with open(path, "rb") as file:
+            stamp = _read_stamp(path, kind, file.read(136))
+    reader = _Words(path, words, size, 8 if stamp is None else 34)
     held = np.arange(count, dtype=np.uint32)
     bound = 2 * degree if kind == 2 else degree
     found = [reader.rows(held, held, bound, count)]
@@ -164,14 +280,14 @@ def load_index(path):
         found.append(reader.rows(ids, ids, degree, count))
     if reader.at * 4 < size:
         raise _malformed(path, reader.at * 4, "trailing")
-    return Index(KINDS[kind], count, dim, degree, start, found)
+    return Index(KINDS[kind], count, dim, degree, start, found, stamp)
 
 
 class _Words:
-    """The words of an index file behind its header, taken one after another."""
+    """The words of an index file from its layers on, taken one after another."""
 
-    def __init__(self, path, words, size):
-        self.path, self.words, self.size, self.at = path, words, size, 8
+    def __init__(self, path, words, size, at):
+        self.path, self.words, self.size, self.at = path, words, size, at
 
     def take(self, many):
         if self.at + many > self.words.size:

@@ -1,5 +1,6 @@
 """Tests of annbuild.py: python3 -m unittest discover python."""
 
+import hashlib
 import os
 import tempfile
 import unittest
@@ -41,6 +42,16 @@ class Points(Files):
             with self.assertRaises(ValueError):
                 annbuild.write_points(self.name("none"), points)
         self.assertFalse(os.path.exists(self.name("none")))
+
+    def test_signed_points_are_written_and_read_as_they_are(self):
+        annbuild.write_points(self.name("two"), [[-128, -20], [0, 127]], type="i8")
+        with open(self.name("two"), "rb") as file:
+            self.assertEqual(file.read().hex(), "0200000002000000" + "80ec007f")
+        self.assertEqual(annbuild.read_points(self.name("two"), type="i8").tolist(), [[-128, -20], [0, 127]])
+        self.assertEqual(annbuild.read_points(self.name("two")).tolist(), [[128, 236], [0, 127]])
+        for points, type in (([[128]], "i8"), ([[-129]], "i8"), ([[1]], "i16")):
+            with self.assertRaises(ValueError):
+                annbuild.write_points(self.name("none"), points, type=type)
 
     def test_broken_files_are_told_with_place_and_rule(self):
         for data, told in (
@@ -122,6 +133,57 @@ class Indexes(Files):
         self.refused(f"at byte {len(whole)}: trailing", annbuild.load_index, self.written("long", whole + b"\0"))
 
 
+# The index of the four points 0, 10, 20 and 30 with its stamp: degree 2, beam 4, alpha 1/1, a cap of 4.
+STAMPED = "50414e4e 02000000 01000000 04000000 01000000 02000000 00000000 01000000"
+STAMPED += "01000000 01000000 01000000 04000000 01000000 01000000 04000000" + " 00000000" * 6 + "01000000" + " 00000000" * 4
+STAMPED += "DIGEST"
+STAMPED += "01000000 01000000 02000000 00000000 02000000 01000000 01000000 01000000 01000000"
+
+
+class Stamps(Files):
+    def stamped(self):
+        digest = hashlib.sha256(bytes.fromhex("0400000001000000" + "000a141e")).hexdigest()
+        return bytearray.fromhex(STAMPED.replace("DIGEST", digest))
+
+    def test_a_stamp_is_read_and_says_how_to_build_again(self):
+        self.assertEqual(len(self.stamped()), 172)
+        index = annbuild.load_index(self.written("stamped", bytes(self.stamped())))
+        stamp = index.stamp
+        self.assertEqual((stamp.element, stamp.order, stamp.start, stamp.beam), (1, 1, 1, 4))
+        self.assertEqual((stamp.num, stamp.den, stamp.cap, stamp.passes, stamp.seed, stamp.floor), (1, 1, 4, 1, 0, 0))
+        annbuild.write_points(self.name("data"), [[0], [10], [20], [30]])
+        self.assertEqual(stamp.digest, annbuild.digest(self.name("data")))
+        self.assertEqual(index.layers[0].neighbours.tolist(), [1, 0, 2, 1, 1])
+        self.assertEqual(
+            index.options(),
+            {
+                "kind": "vamana", "degree": 2, "seed": 0, "format": 2, "type": "u8", "order": "file",
+                "start": "first", "alpha": "1/1", "beam": 4, "cap": 4, "passes": 1,
+            },
+        )
+        plain = annbuild.load_index(os.path.join(FOUR, "four.ann"))
+        self.assertIsNone(plain.stamp)
+        with self.assertRaises(ValueError):
+            plain.options()
+
+    def test_a_broken_stamp_is_told_with_place_and_rule(self):
+        for place, word, told in (
+            (32, 3, "at byte 32: stamp"),
+            (36, 0, "at byte 36: stamp"),
+            (52, 2, "at byte 52: stamp"),
+            (60, 1, "at byte 60: stamp"),
+            (84, 3, "at byte 84: stamp"),
+            (96, 1, "at byte 96: stamp"),
+            (136, 3, "at byte 136: degree"),
+        ):
+            data = self.stamped()
+            data[place : place + 4] = word.to_bytes(4, "little")
+            self.refused(told, annbuild.load_index, self.written("broken", bytes(data)))
+        for size in (32, 87, 95, 103, 135, 136, 171):
+            cut = self.written("cut", bytes(self.stamped()[:size]))
+            self.refused(f"at byte {size}: short", annbuild.load_index, cut)
+
+
 class Program(Files):
     def test_an_index_is_built_and_answers(self):
         annbuild.write_points(self.name("data"), np.array([[0], [10], [20], [30]]))
@@ -134,6 +196,16 @@ class Program(Files):
         ids, distances = annbuild.query(self.name("data"), self.name("index"), self.name("asked"), k=2)
         self.assertEqual(ids.tolist(), [[1, 2], [3, 2]])
         self.assertEqual(distances.tolist(), [[4, 64], [0, 100]])
+
+    def test_an_index_is_built_again_from_its_stamp(self):
+        points = (np.arange(600, dtype=np.int64) * 7919 % 256 - 128).reshape(200, 3)
+        annbuild.write_points(self.name("data"), points, type="i8")
+        for kind in ("vamana", "hnsw", "nnd"):
+            annbuild.build(self.name("data"), self.name("index"), kind=kind, seed=5, degree=8, format=2, type="i8")
+            options = annbuild.load_index(self.name("index")).options()
+            annbuild.build(self.name("data"), self.name("again"), workers=1, pool="serial", **options)
+            with open(self.name("index"), "rb") as first, open(self.name("again"), "rb") as second:
+                self.assertEqual(first.read(), second.read())
 
     def test_a_refusal_tells_status_and_line(self):
         path = self.written("short", b"1234")
