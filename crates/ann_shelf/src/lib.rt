@@ -1,31 +1,26 @@
 //! The outside of the program, as its other crates see it: files by name (`Shelf`), an output of bytes (`Out`),
 //! and a gate that is called at moments of a build (`Gate`).
 //!
-//! `DirShelf` and `StdOut` are the real folder and the standard streams. `MemShelf` and `MemOut` stand for them in
+//! The real folder and the standard streams are in `folder_shelf`. `MemShelf` and `MemOut` stand for them in
 //! tests: of their calls those with chosen numbers fail, and each moves as few bytes as is set. `SoundShelf` is a shelf on which no call fails.
 //! An error is a `Slip`: `Failed` comes only where the object's count of faults rose, `NoMemory` where there was no
 //! memory. `append_all` and `write_all` carry a piece through, however little one call takes.
 #![tactic(auto)]
 
 mod calls;
-mod dir_shelf;
 mod faults;
 mod gate;
-mod handles;
 mod mem_out;
 mod mem_shelf;
 mod named_files;
-mod open_files;
 mod out;
-mod part_file;
 mod pieces;
 mod shelf;
 mod slip;
 mod sound_shelf;
-mod std_out;
 mod whole;
 
-pub use dir_shelf::DirShelf;
+pub use faults::counted;
 pub use gate::{FreeGate, Gate};
 pub use mem_out::MemOut;
 pub use mem_shelf::MemShelf;
@@ -33,5 +28,4 @@ pub use out::Out;
 pub use shelf::Shelf;
 pub use slip::{NoMemory, Quantity, Slip};
 pub use sound_shelf::SoundShelf;
-pub use std_out::StdOut;
 pub use whole::{append_all, write_all};

@@ -1,5 +1,6 @@
 //! The adapters of the standard streams.
-use ann_shelf::{Out, StdOut};
+use ann_shelf::Out;
+use folder_shelf::StdOut;
 
 #[test]
 fn the_standard_streams_take_a_piece(rt: HostRuntime) {

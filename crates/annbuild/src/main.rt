@@ -7,8 +7,9 @@ mod progress;
 ghost use Rattle.std.specs.Prelude.{◌≡◌};
 ghost use Rattle.std.specs.Process.{exit_status};
 
-use ann_shelf::{DirShelf, NoMemory, StdOut, write_all};
+use ann_shelf::{NoMemory, write_all};
 use annbuild_commands::annbuild;
+use folder_shelf::{DirShelf, StdOut};
 use progress::{Behind, Progress};
 use std::alloc::Global;
 use std::env;

@@ -1,5 +1,6 @@
 //! Files of a real folder.
-use ann_shelf::{DirShelf, Shelf, Slip, append_all};
+use ann_shelf::{Shelf, Slip, append_all};
+use folder_shelf::DirShelf;
 use std::alloc::Global;
 use std::fs::Files;
 use std::test::Fail;

@@ -1,9 +1,8 @@
 ghost use Rattle.std.specs.Prelude.{◌≡◌, ◌≤◌};
 ghost use Rattle.ann_shelf.specs.Faults.{Rose};
 
-use crate::faults::counted;
 use crate::open_files::OpenFiles;
-use crate::{Shelf, Slip};
+use ann_shelf::{Shelf, Slip, counted};
 use std::alloc::Global;
 use std::fs::Files;
 use std::io;

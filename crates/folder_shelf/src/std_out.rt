@@ -1,7 +1,6 @@
 ghost use Rattle.std.specs.Prelude.{◌≤◌, length, IfOk};
 
-use crate::faults::counted;
-use crate::{Out, Slip};
+use ann_shelf::{Out, Slip, counted};
 use std::io;
 use std::io::ErrorKind;
 
