@@ -10,7 +10,6 @@ use neighbour_lists::Lists;
 use nn_descent::{NndSettings, build_nnd, search_graph};
 use pivot_trees::Tree;
 use std::alloc::Global;
-use std::process::Abort;
 use std::test::Fail;
 use std::thread::Threads;
 use steal_pool::{RayonRounds, Rounds, SerialRounds, StealRounds};
@@ -36,20 +35,30 @@ pub(crate) fn planted<R: Threads + Sync, P: Rounds>(
     Ok(lists)
 }
 
-// Asserts that these are the lists of the four points.
-fn assert_lists(rt: &impl Abort, lists: &Lists, rows: [&[u32]; 4]) {
-    assert!(rt; lists.count() == 4);
-    for id in 0..4u32 {
-        assert_eq!(rt; lists.row(id), rows[id as usize]);
+// Whether these are the lists.
+fn has_lists(lists: &Lists, rows: &[&[u32]]) -> bool {
+    if lists.count() as usize != rows.len() {
+        return false;
     }
+    for (id, row) in rows.iter().enumerate() {
+        if lists.row(id as u32) != *row {
+            return false;
+        }
+    }
+    true
 }
 
-// Asserts that these are the rows of the four points.
-fn assert_rows(rt: &impl Abort, graph: &FlatGraph, rows: [&[u32]; 4]) {
-    assert!(rt; graph.count() == 4);
-    for id in 0..4u32 {
-        assert_eq!(rt; graph.row(id), rows[id as usize]);
+// Whether these are the rows of a graph.
+fn has_rows(graph: &FlatGraph, rows: &[&[u32]]) -> bool {
+    if graph.count() as usize != rows.len() {
+        return false;
     }
+    for (id, row) in rows.iter().enumerate() {
+        if graph.row(id as u32) != *row {
+            return false;
+        }
+    }
+    true
 }
 
 const LISTS: [&[u32]; 4] = [&[1, 2], &[0, 2], &[1, 3], &[2, 1]];
@@ -70,36 +79,57 @@ const SETTINGS: NndSettings = NndSettings {
     floor: 0,
 };
 
-// Lists, a round, and the search graph over a pool; then the whole build.
-fn assert_line<R: Threads + Sync + Abort, P: Rounds>(
+// Whether the lists of the line, a round of them and their search graph over a pool are those worked out.
+fn lists_line<R: Threads + Sync, P: Rounds>(
+    rt: &R,
+    alloc: Global,
+    points: &Points,
+    pool: &mut P,
+) -> Result<bool, NoMemory>
+    requires { length points.now.vectors ≡ 4 }
+{
+    let mut lists = planted(rt, alloc, points, pool)?;
+    let before = has_lists(&lists, &LISTS);
+    let changed = lists.round(rt, alloc, points, pool, &FreeGate)?;
+    let graph = search_graph(rt, alloc, points, &lists, 2, EVEN, pool, &FreeGate)?;
+    Ok(before && changed == 0 && has_lists(&lists, &LISTS) && has_rows(&graph, &ROWS))
+}
+
+// Whether the whole build over a pool gives the index of the line.
+fn builds_line<R: Threads + Sync, P: Rounds>(
+    rt: &R,
+    alloc: Global,
+    points: &Points,
+    pool: &mut P,
+) -> Result<bool, NoMemory>
+    requires { length points.now.vectors ≡ 4 }
+{
+    let index = build_nnd(rt, alloc, points, SETTINGS, pool, &FreeGate)?;
+    let sizes = (index.count, index.dim, index.degree, index.start);
+    Ok(matches!(index.kind, Kind::Nnd)
+        && index.upper.is_empty()
+        && sizes == (4, 1, 2, 0)
+        && has_rows(&index.base, &ROWS))
+}
+
+// Whether both are so over a pool.
+fn is_line<R: Threads + Sync, P: Rounds>(
     rt: &R,
     alloc: Global,
     pool: &mut P,
-) -> Result<(), NoMemory> {
+) -> Result<bool, NoMemory> {
     let points = line(alloc)?;
-    assert!(rt; points.count() == 4);
-    let mut lists = planted(rt, alloc, &points, pool)?;
-    assert_lists(rt, &lists, LISTS);
-    let changed = lists.round(rt, alloc, &points, pool, &FreeGate)?;
-    assert_eq!(rt; changed, 0);
-    assert_lists(rt, &lists, LISTS);
-    let graph = search_graph(rt, alloc, &points, &lists, 2, EVEN, pool, &FreeGate)?;
-    assert_rows(rt, &graph, ROWS);
-    let index = build_nnd(rt, alloc, &points, SETTINGS, pool, &FreeGate)?;
-    assert!(rt; matches!(index.kind, Kind::Nnd) && index.upper.is_empty());
-    assert_eq!(rt;
-        (index.count, index.dim, index.degree, index.start),
-        (4, 1, 2, 0)
-    );
-    assert_rows(rt, &index.base, ROWS);
-    Ok(())
+    if points.count() != 4 {
+        return Ok(false);
+    }
+    Ok(lists_line(rt, alloc, &points, pool)? && builds_line(rt, alloc, &points, pool)?)
 }
 
 #[test]
 fn each_pool_gives_the_lists_and_the_rows_of_the_line(rt: HostRuntime) -> Result<(), Fail> {
     let alloc = rt.alloc();
-    assert_line(&rt, alloc, &mut SerialRounds::new())?;
-    assert_line(&rt, alloc, &mut RayonRounds::new(2))?;
-    assert_line(&rt, alloc, &mut StealRounds::new(3))?;
+    assert!(rt; is_line(&rt, alloc, &mut SerialRounds::new())?);
+    assert!(rt; is_line(&rt, alloc, &mut RayonRounds::new(2))?);
+    assert!(rt; is_line(&rt, alloc, &mut StealRounds::new(3))?);
     Ok(())
 }

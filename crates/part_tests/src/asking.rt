@@ -47,17 +47,22 @@ fn asked<R: Threads + Sync + Abort, P: Rounds>(
     )
 }
 
-// Asserts that these are the answers, each of at most k.
-fn assert_answers(rt: &impl Abort, answers: &Answers, k: u32, wanted: &[&[Near]])
+// Whether these are the answers, each of at most k.
+fn are_answers(answers: &Answers, k: u32, wanted: &[&[Near]]) -> bool
     requires k { k ≤ 4 }
     requires short { All (λ nears. length nears ≤ k) answers.now }
 {
-    assert_eq!(rt; answers.count() as usize, wanted.len());
+    if answers.count() as usize != wanted.len() {
+        return false;
+    }
     for j in 0..answers.count() {
         let mut out = [near(7, 7); 4];
         let len = answers.answer(j, &mut out);
-        assert_eq!(rt; &out[..len], wanted[j as usize]);
+        if &out[..len] != wanted[j as usize] {
+            return false;
+        }
     }
+    true
 }
 
 #[test]
@@ -65,7 +70,7 @@ fn serial_answers_are_the_nearest_along_the_line(rt: HostRuntime) -> Result<(), 
     let mut pool = SerialRounds::new();
     let answers = asked(&rt, rt.alloc(), &mut pool, &[12, 30], 0, 4, 2)?;
     let wanted: [&[Near]; 2] = [&[near(4, 1), near(64, 2)], &[near(100, 2), near(400, 1)]];
-    assert_answers(&rt, &answers, 2, &wanted);
+    assert!(rt; are_answers(&answers, 2, &wanted));
     Ok(())
 }
 
@@ -76,7 +81,7 @@ fn rayon_answers_of_three_workers_are_the_nearest_along_the_line(
     let mut pool = RayonRounds::new(3);
     let answers = asked(&rt, rt.alloc(), &mut pool, &[12, 30], 0, 4, 2)?;
     let wanted: [&[Near]; 2] = [&[near(4, 1), near(64, 2)], &[near(100, 2), near(400, 1)]];
-    assert_answers(&rt, &answers, 2, &wanted);
+    assert!(rt; are_answers(&answers, 2, &wanted));
     Ok(())
 }
 
@@ -85,7 +90,7 @@ fn an_answer_is_shorter_where_less_is_found(rt: HostRuntime) -> Result<(), Fail>
     let mut pool = SerialRounds::new();
     let answers = asked(&rt, rt.alloc(), &mut pool, &[12], 0, 4, 4)?;
     let wanted: [&[Near]; 1] = [&[near(4, 1), near(64, 2), near(144, 0)]];
-    assert_answers(&rt, &answers, 4, &wanted);
+    assert!(rt; are_answers(&answers, 4, &wanted));
     Ok(())
 }
 
@@ -94,7 +99,7 @@ fn a_beam_of_one_answers_one(rt: HostRuntime) -> Result<(), Fail> {
     let mut pool = SerialRounds::new();
     let answers = asked(&rt, rt.alloc(), &mut pool, &[12, 30], 0, 1, 1)?;
     let wanted: [&[Near]; 2] = [&[near(4, 1)], &[near(100, 2)]];
-    assert_answers(&rt, &answers, 1, &wanted);
+    assert!(rt; are_answers(&answers, 1, &wanted));
     Ok(())
 }
 
@@ -103,7 +108,7 @@ fn a_round_begins_at_the_query_that_is_asked(rt: HostRuntime) -> Result<(), Fail
     let mut pool = RayonRounds::new(3);
     let answers = asked(&rt, rt.alloc(), &mut pool, &[12, 30, 4], 1, 4, 1)?;
     let wanted: [&[Near]; 2] = [&[near(100, 2)], &[near(16, 0)]];
-    assert_answers(&rt, &answers, 1, &wanted);
+    assert!(rt; are_answers(&answers, 1, &wanted));
     Ok(())
 }
 
@@ -112,9 +117,9 @@ fn a_round_has_at_most_4096_queries(rt: HostRuntime) -> Result<(), Fail> {
     let mut pool = RayonRounds::new(3);
     let queries = [12u8; 4098];
     let first = asked(&rt, rt.alloc(), &mut pool, &queries, 0, 4, 1)?;
-    assert_eq!(rt; first.count(), 4096);
+    assert!(rt; first.count() == 4096);
     let last = asked(&rt, rt.alloc(), &mut pool, &queries, 4096, 4, 1)?;
     let wanted: [&[Near]; 2] = [&[near(4, 1)], &[near(4, 1)]];
-    assert_answers(&rt, &last, 1, &wanted);
+    assert!(rt; are_answers(&last, 1, &wanted));
     Ok(())
 }

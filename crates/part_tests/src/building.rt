@@ -27,12 +27,17 @@ fn small(cap: u32, passes: u32) -> VamanaSettings
     }
 }
 
-// Asserts that these are the rows of the four points.
-fn assert_rows(rt: &impl Abort, graph: &FlatGraph, rows: [&[u32]; 4]) {
-    assert!(rt; graph.count() == 4);
-    for id in 0..4u32 {
-        assert_eq!(rt; graph.row(id), rows[id as usize]);
+// Whether these are the rows of a graph.
+fn has_rows(graph: &FlatGraph, rows: &[&[u32]]) -> bool {
+    if graph.count() as usize != rows.len() {
+        return false;
     }
+    for (id, row) in rows.iter().enumerate() {
+        if graph.row(id as u32) != *row {
+            return false;
+        }
+    }
+    true
 }
 
 // What crosses threads beside a build: its plan is shared, it and its changes are sent.
@@ -97,7 +102,7 @@ fn three_batches_and_then_none(rt: HostRuntime) -> Result<(), Fail> {
     assert!(rt; build.total() == 3);
     assert!(rt; next_three(&rt, alloc, &mut build)? == [1, 2, 3]);
     assert!(rt; next_batch(&rt, alloc, &mut build)? == 0);
-    assert_rows(&rt, build.graph(), [&[1], &[0, 2], &[1], &[1]]);
+    assert!(rt; has_rows(build.graph(), &[&[1], &[0, 2], &[1], &[1]]));
     Ok(())
 }
 
@@ -113,7 +118,7 @@ fn batches_of_one_see_each_other(rt: HostRuntime) -> Result<(), Fail> {
     assert!(rt; build.batch() == build.total());
     let index = build.into_index();
     assert!(rt; is_of_the_line(&index));
-    assert_rows(&rt, &index.base, [&[1], &[0, 2], &[1, 3], &[2]]);
+    assert!(rt; has_rows(&index.base, &[&[1], &[0, 2], &[1, 3], &[2]]));
     Ok(())
 }
 
@@ -157,7 +162,7 @@ fn a_change_holds_the_rows_that_differ(rt: HostRuntime) -> Result<(), Fail> {
     assert!(rt; puts(&rt, alloc, &mut build, 0, &mut copy)?);
     assert!(rt; puts(&rt, alloc, &mut build, 2, &mut copy)?);
     assert!(rt; puts(&rt, alloc, &mut build, 3, &mut copy)?);
-    assert_rows(&rt, &copy, [&[1], &[0, 2], &[1], &[1]]);
+    assert!(rt; has_rows(&copy, &[&[1], &[0, 2], &[1], &[1]]));
     Ok(())
 }
 
@@ -191,6 +196,6 @@ fn a_second_pass_goes_on_from_the_rows_of_the_first(rt: HostRuntime) -> Result<(
     assert!(rt; build.total() == 6);
     put_all(&rt, alloc, &mut build, &mut copy)?;
     assert!(rt; next_batch(&rt, alloc, &mut build)? == 0);
-    assert_rows(&rt, &copy, [&[1], &[0, 2], &[1, 3], &[2]]);
+    assert!(rt; has_rows(&copy, &[&[1], &[0, 2], &[1, 3], &[2]]));
     Ok(())
 }

@@ -12,11 +12,7 @@ mod building;
 #[cfg(test)]
 mod counts;
 #[cfg(test)]
-mod digests;
-#[cfg(test)]
 mod distance;
-#[cfg(test)]
-mod folders;
 #[cfg(test)]
 mod layers;
 #[cfg(test)]
@@ -28,12 +24,8 @@ mod nearness;
 #[cfg(test)]
 mod orders;
 #[cfg(test)]
-mod point_files;
-#[cfg(test)]
 mod pruning;
 #[cfg(test)]
 mod searching;
 #[cfg(test)]
 mod settled;
-#[cfg(test)]
-mod shelves;
