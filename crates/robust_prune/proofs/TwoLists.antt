@@ -52,7 +52,7 @@ later_drop (x ∷ xs) zero d up k z h = below_has near_cmp near_order x z xs up.
 later_drop (x ∷ xs) (suc i) d up k z h = later_drop xs i d up.1 (omega arith) z h
 
 -- the answers of a comparison
-is_less : (r : Ordering) → is_lt r ≡ true → r ≡ Less
+pub is_less : (r : Ordering) → is_lt r ≡ true → r ≡ Less
 is_less Less h = refl
 is_less Equal h = absurd (true≢false (sym h))
 is_less Greater h = absurd (true≢false (sym h))
