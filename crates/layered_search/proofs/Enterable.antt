@@ -4,12 +4,16 @@ use Rattle.std.specs.Prelude.{nat_lt}
 use Rattle.std.proofs.Math.ListN.{get_or-map}
 use Rattle.std.proofs.lemmas.Bool.{ltb-true}
 use Rattle.std.proofs.lemmas.List.{length-map}
-use Rattle.ann_defs.specs.Graph.{has, IsGraph}
+use Rattle.ann_defs.specs.Graph.{has, IsGraph, AreGoodRows}
 use Rattle.ann_defs.proofs.Members.{has_true}
 use Rattle.ann_defs.proofs.Order.{All_has}
 use Rattle.graph_rows.specs.Index.{layer_ids}
 use Rattle.graph_rows.specs.Layers.{Layered}
-use Rattle.graph_rows.specs.WellFormed.{IsFurtherLayer, AreFurtherLayers}
+use Rattle.graph_rows.specs.View.{contents}
+use Rattle.graph_rows.specs.WellFormed.{IsFurtherLayer, AreFurtherLayers, IsWellFormed, base_bound}
+use Rattle.graph_rows.specs.declared.index.Index.{Index}
+use Rattle.graph_rows.proofs.FlatIndex.{base_good}
+use Rattle.graph_rows.proofs.LayerLists.{rows_enumerate}
 use Rattle.layered_search.specs.Descent.{row_of_id}
 use Rattle.layered_search.specs.Entering.{AreEnterable, layer_at, holds_at}
 use Rattle.layered_search.proofs.HeldRows.{layer_graph}
@@ -66,3 +70,9 @@ module _ (n start degree : ℕ) (layers : List Layered) (f : AreFurtherLayers st
         let above : holds (map entries_of layers) (suc k) id ≡ true = ap (λ (e : Entries). has (layer_ids e) id) (same (suc k)) ∙ subst (λ j. holds_at layers j id ≡ true) next h in
         sym (ap (λ (e : Entries). has (layer_ids e) id) (same k)) ∙ further_nested start degree (λ v. nat_lt v n) (map entries_of layers) k f (subst (λ j. j < length (map entries_of layers)) next (within (k + 1) lt)) id above;
   }
+
+-- the rows of the lowest layer are good
+pub base_rows : (n : ℕ) (x : Index) → IsWellFormed (contents x) → x.count ≡ n → AreGoodRows n (base_bound (contents x).kind x.degree) x.base.rows
+base_rows n x well many =
+    let bound = base_bound (contents x).kind x.degree in
+    subst (λ (m : ℕ). AreGoodRows m bound x.base.rows) many (subst (λ (held : List (List ℕ)). AreGoodRows x.count bound held) (rows_enumerate 0 x.base.rows) (base_good (contents x) well))

@@ -1,12 +1,13 @@
 -- What is gathered.
-use Rattle.std.proofs.Common.{◌≡◌, ◌≢◌, ℕ, ◌+◌, ◌<◌, true, false, cond, not, List, [], ◌∷◌, ◌++◌, map, take, length, get_or, refl, sym, ap, ◌∙◌, subst, inl, inr}
+use Rattle.std.proofs.Common.{◌≡◌, ◌≢◌, ℕ, ◌+◌, ◌<◌, ◌≤◌, true, false, cond, not, List, [], ◌∷◌, ◌++◌, map, take, length, get_or, refl, sym, ap, ◌∙◌, subst, inl, inr}
 use Rattle.std.specs.Prelude.{◌==◌, ◌||◌, ◌⊎◌, nat_eq}
 use Rattle.std.specs.List.{fold, All, IsDistinct, list_any}
 use Rattle.std.proofs.lemmas.Grind.{fold-append}
 use Rattle.std.proofs.lemmas.Bool.{eqb-true, eqb-false, or_parts, or_cases, not-true, ne_eqb}
 use Rattle.std.proofs.lemmas.Cmp.{nat_eq_equiv}
-use Rattle.std.proofs.lemmas.List.{map_push, take_more, map_more}
+use Rattle.std.proofs.lemmas.List.{map_push, take_more, map_more, length-map}
 use Rattle.std.proofs.lemmas.Map.Keys.{IsDistinct-push}
+use Rattle.std.proofs.lemmas.Map.Steps.{length-le_from_distinct_below}
 use Rattle.ann_defs.specs.declared.near.Near.{Near}
 use Rattle.ann_defs.specs.Distance.{point}
 use Rattle.ann_defs.specs.Nearness.{near_of, all_near, ids_of}
@@ -186,3 +187,16 @@ is_gathered points p visited extra below near inside =
           (λ h. true_has (without p (ids_of visited ++ extra)) u (from_set points p visited extra right u (has_true (ids_of nears) u h)))
           (λ h. true_has (ids_of nears) u (of_set points p visited extra right u (has_true (without p (ids_of visited ++ extra)) u h)));
     }
+
+any_has : (xs : List ℕ) (q : ℕ) → list_any (nat_eq q) xs ≡ true → Has xs q
+any_has [] q h = cc
+any_has (x ∷ xs) q h = elim (or_cases (nat_eq q x) (list_any (nat_eq q) xs) h) as (λ _. (x ≡ q) ⊎ Has xs q) [ inl e ↦ inl (sym (eqb-true q x e)) | inr m ↦ inr (any_has xs q m) ]
+
+-- distinct points are at most all of them
+pub few_distinct : (n : ℕ) (nears : List Near) → All (λ (x : Near). x.id < n) nears → IsDistinct nat_eq (ids_of nears) → length nears ≤ n
+few_distinct n nears below distinct =
+    let few : length (ids_of nears) ≤ n =
+    length-le_from_distinct_below (ids_of nears) n distinct (λ q h.
+    let from = has-map (λ (x : Near). x.id) nears q (any_has (ids_of nears) q h) in
+    subst (λ (u : ℕ). u < n) from.2 (All_has (λ (x : Near). x.id < n) nears from.0 below from.1)) in
+    subst (λ m. m ≤ n) (length-map nears (λ (x : Near). x.id)) few

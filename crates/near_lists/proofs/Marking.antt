@@ -1,5 +1,5 @@
 -- Marks, as ids are seen.
-use Rattle.std.proofs.Common.{◌≡◌, ℕ, ◌+◌, ◌<◌, ◌≤◌, Bool, true, false, List, [], ◌∷◌, ◌++◌, take, set, length, get_or, max, ltb, refl, sym, ap, ◌∙◌, subst, inl, inr, arith}
+use Rattle.std.proofs.Common.{◌≡◌, ℕ, zero, suc, ◌+◌, ◌<◌, ◌≤◌, Bool, true, false, List, [], ◌∷◌, ◌++◌, take, set, length, replicate, get_or, max, ltb, refl, sym, ap, ◌∙◌, subst, inl, inr, arith}
 use Rattle.std.specs.Prelude.{◌⊎◌}
 use Rattle.std.proofs.Math.Nat.{max-eq_left, max-eq_right}
 use Rattle.std.proofs.lemmas.Bool.{cases_eq, cases_lt, lt-ltb, le-ltb}
@@ -8,7 +8,7 @@ use Rattle.std.proofs.lemmas.List.{get_or-set_same, get_or-set_other, take_more,
 use Rattle.ann_defs.specs.Ordered.{Has}
 use Rattle.ann_defs.proofs.Order.{has-push}
 use Rattle.near_lists.proofs.Gathering.{has-pushed}
-use Rattle.near_lists.specs.Marks.{mark_of, AreUnseen, OnlySeen}
+use Rattle.near_lists.specs.Marks.{mark_of, AreUpTo, AreUnseen, OnlySeen}
 
 pub unseen_none : (seen : ℕ) (marks : List ℕ) → AreUnseen seen [] marks [] marks
 unseen_none seen marks = record { among = λ u h. h; each = λ u h. absurd h; marked = λ u. inl refl }
@@ -107,3 +107,9 @@ seen_twice seen a b c f g u =
 
 pub unseen_only : (seen : ℕ) (ids old todo new : List ℕ) → AreUnseen seen ids old todo new → OnlySeen seen old new
 unseen_only seen ids old todo new k u = elim (k.marked u) as (λ _. (mark_of new u ≡ mark_of old u) ⊎ ((mark_of old u < seen) × (mark_of new u ≡ seen))) [ inl same ↦ inl same | inr now ↦ inr (now.0, now.1) ]
+
+-- marks that are all 0
+pub up_to_none : (n : ℕ) → AreUpTo 0 (replicate n 0)
+up_to_none zero u = omega arith
+up_to_none (suc n) zero = omega arith
+up_to_none (suc n) (suc u) = up_to_none n u

@@ -8,7 +8,7 @@ use Rattle.std.specs.declared.cmp.Ordering.TheVariants.{Less, Equal, Greater}
 use Rattle.std.specs.Ordering.{nat_cmp, ordering_then, eq_by_cmp, is_eq}
 use Rattle.std.proofs.lemmas.Cmp.{ranked}
 use Rattle.std.proofs.lemmas.Bool.{eq-eqb, ne_eqb}
-use Rattle.std.proofs.lemmas.List.{get_or-take, get_or-drop, take-append-drop, length-drop, append-nil, length-take-le}
+use Rattle.std.proofs.lemmas.List.{get_or-take, get_or-drop, take-append-drop, length-drop, append-nil, length-take-le, get_or_read}
 use Rattle.std.proofs.lemmas.List.Elements.{filter-append, All-from_get_or, All-weaker, Contains-get_or}
 use Rattle.ann_defs.specs.declared.near.Near.{Near}
 use Rattle.ann_defs.specs.Nearness.{near_cmp}
@@ -96,6 +96,13 @@ module _ (edges : List Edge) (t from end : ℕ) (first : IsStart edges t from) (
       ∙ filter-append test (take (end - from) rest) (drop (end - from) rest)
       ∙ (λ i. filter_each test (take (end - from) rest) mid i ++ filter_none test (drop (end - from) rest) high i)
       ∙ append-nil (take (end - from) rest))
+
+-- the two starts that are read for a target
+pub starts_of_target : (edges : List Edge) (starts : List ℕ) (t from end : ℕ) → AreStarts edges starts → t + 1 < length starts → from ≡ get_or starts t from → end ≡ get_or starts (t + 1) end → IsStart edges t from × IsStart edges (t + 1) end
+starts_of_target edges starts t from end are within first last = (
+  subst (IsStart edges t) (sym (get_or_read starts t from (omega arith) first 0)) (are.starts_at t (omega arith)),
+  subst (IsStart edges (t + 1)) (sym (get_or_read starts (t + 1) end within last 0)) (are.starts_at (t + 1) within),
+)
 
 -- behind the last start there is no target
 pub none_behind : (edges : List Edge) (starts : List ℕ) (t : ℕ) → AreStarts edges starts → length starts ≤ t + 1 → filter (λ (e : Edge). e.target == t) edges ≡ []

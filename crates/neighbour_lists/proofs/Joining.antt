@@ -1,5 +1,5 @@
 -- Neighbourhoods in which each id stands once.
-use Rattle.std.proofs.Common.{◌≡◌, ℕ, ◌<◌, true, false, not, List, length, refl, ap, inl, inr}
+use Rattle.std.proofs.Common.{◌≡◌, ℕ, ◌<◌, true, false, not, List, ◌++◌, length, refl, ap, inl, inr}
 use Rattle.std.specs.Prelude.{◌⊎◌}
 use Rattle.std.specs.List.{All, flat_map}
 use Rattle.ann_defs.specs.Graph.{has, row_in, AreGoodRows}
@@ -31,30 +31,21 @@ module _ (points : List (List ℕ)) (list : ℕ) (rows : List (List ℕ)) where
         ] refl
       ])
 
-  module _ (v : ℕ) where
-    met_reached : (w : ℕ) → Has (met points list rows v) w → Has (reached points list rows v) w
-    met_reached w h =
-        append-has (row_in rows v) (flat_map (around points list rows) (around points list rows v)) w
-        (elim (has-append (row_in rows v) (flat_map (joined points list rows) (joined points list rows v)) w h) as (λ _. Has (row_in rows v) w ⊎ Has (flat_map (around points list rows) (around points list rows v)) w) [
-          | inl m ↦ inl m
-          | inr m ↦
-              let from = has-flat (joined points list rows) (joined points list rows v) w m in
-              inr (flat-has (around points list rows) (around points list rows v) from.0 w (joined_around v from.0 from.1) (joined_around from.0 w from.2))
-        ])
+  -- what lists and two steps of one family reach, two steps of a wider one do
+  wider : (f g : ℕ → List ℕ) → ((u w : ℕ) → Has (f u) w → Has (g u) w) → (v w : ℕ) → Has (row_in rows v ++ flat_map f (f v)) w → Has (row_in rows v ++ flat_map g (g v)) w
+  wider f g into v w h =
+      append-has (row_in rows v) (flat_map g (g v)) w
+      (elim (has-append (row_in rows v) (flat_map f (f v)) w h) as (λ _. Has (row_in rows v) w ⊎ Has (flat_map g (g v)) w) [
+        | inl m ↦ inl m
+        | inr m ↦ let from = has-flat f (f v) w m in inr (flat-has g (g v) from.0 w (into v from.0 from.1) (into from.0 w from.2))
+      ])
 
-    reached_met : (w : ℕ) → Has (reached points list rows v) w → Has (met points list rows v) w
-    reached_met w h =
-        append-has (row_in rows v) (flat_map (joined points list rows) (joined points list rows v)) w
-        (elim (has-append (row_in rows v) (flat_map (around points list rows) (around points list rows v)) w h) as (λ _. Has (row_in rows v) w ⊎ Has (flat_map (joined points list rows) (joined points list rows v)) w) [
-          | inl m ↦ inl m
-          | inr m ↦
-              let from = has-flat (around points list rows) (around points list rows v) w m in
-              inr (flat-has (joined points list rows) (joined points list rows v) from.0 w (around_joined v from.0 from.1) (around_joined from.0 w from.2))
-        ])
-
-    -- the next list, of what is met
-    pub met_next : nearest_of points list v (met points list rows v) ≡ next_row points list rows v
-    met_next = nearest_of_alike points list v (met points list rows v) (reached points list rows v) (alike_both (met points list rows v) (reached points list rows v) met_reached reached_met)
+  -- the next list, of what is met
+  pub met_next : (v : ℕ) → nearest_of points list v (met points list rows v) ≡ next_row points list rows v
+  met_next v =
+      nearest_of_alike points list v (met points list rows v) (reached points list rows v) (alike_both (met points list rows v) (reached points list rows v)
+      (wider (joined points list rows) (around points list rows) joined_around v)
+      (wider (around points list rows) (joined points list rows) around_joined v))
 
 -- the others are points, and at most as many as a list may have
 pub others_inside : (points : List (List ℕ)) (list : ℕ) (rows : List (List ℕ)) → AreGoodRows (length points) list rows → (u : ℕ) → All (λ w. w < length points) (others_of points list rows u)

@@ -58,8 +58,8 @@ impl Lists {
         ensures belong { BelongTo points.now.vectors self.new }
         ensures workers { P.count pool.new ≡ P.count pool.old }
     {
-        match self.advance(rt, alloc, points, pool, gate) {
-            Ok(changed) => Ok(changed),
+        match self.next_state(rt, alloc, points, pool, gate) {
+            Ok(next) => Ok(self.enter(next)),
             Err(refusal) => {
                 raise_all(self.active.as_mut_slice());
                 Err(refusal)
@@ -67,26 +67,37 @@ impl Lists {
         }
     }
 
-    // A round, which leaves the flags as they are where it fails.
-    fn advance<R: Threads + Sync, P: Rounds, G: Gate + Sync>(
+    // The lists after a round, with all that it takes memory for. The edges of the lists are sorted before.
+    fn next_state<R: Threads + Sync, P: Rounds, G: Gate + Sync>(
         &mut self,
         rt: &R,
         alloc: Global,
         points: &Points,
         pool: &mut P,
         gate: &G,
-    ) -> Result<u64, NoMemory>
+    ) -> Result<Next, NoMemory>
         requires { BelongTo points.now.vectors self.old }
-        ensures rows { IfOk result (λ _. self.new.rows ≡ next_rows points.now.vectors self.old.list self.old.rows) }
-        ensures changed { IfOk result (λ c. c ≡ changed points.now.vectors self.old.list self.old.rows) }
         ensures list { self.new.list ≡ self.old.list }
-        ensures kept { IfErr result (λ _. self.new.rows ≡ self.old.rows) }
+        ensures kept { self.new.rows ≡ self.old.rows }
         ensures belong { BelongTo points.now.vectors self.new }
+        ensures sorted { IfOk result (λ _. self.new.edges ≡ edges_of points.now.vectors self.new.rows) }
+        ensures rows { IfOk result (λ n. n.rows.rows ≡ next_rows points.now.vectors self.new.list self.new.rows) }
+        ensures width { IfOk result (λ n. n.rows.width ≡ self.new.list) }
+        ensures edges { IfOk result (λ n. n.edges ≡ edges_of points.now.vectors (next_rows points.now.vectors self.new.list self.new.rows)) }
+        ensures others { IfOk result (λ n. n.others.rows ≡ map (others_of points.now.vectors self.new.list self.new.rows) (range_with_len 0 (length points.now.vectors))) }
+        ensures moved { IfOk result (λ n. length n.moved.items ≡ length points.now.vectors) }
         ensures workers { P.count pool.new ≡ P.count pool.old }
     {
         self.sort_edges(alloc, points)?;
-        let next = next_state(rt, alloc, points, self, pool, gate)?;
-        Ok(self.enter(next))
+        let improved = next_lists(rt, alloc, points, self, pool, gate)?;
+        let edges = Edges::of(alloc, points, &improved.rows)?;
+        let moved = vec![in alloc; false; points.count() as usize]?;
+        Ok(Next {
+            rows: improved.rows,
+            others: improved.others,
+            edges,
+            moved,
+        })
     }
 
     // Sorts the edges of the lists, unless they are sorted already.
@@ -144,33 +155,4 @@ impl Lists {
         self.sorted = true;
         changes
     }
-}
-
-// The lists after a round, with all that it takes memory for.
-fn next_state<R: Threads + Sync, P: Rounds, G: Gate + Sync>(
-    rt: &R,
-    alloc: Global,
-    points: &Points,
-    lists: &Lists,
-    pool: &mut P,
-    gate: &G,
-) -> Result<Next, NoMemory>
-    requires belong { BelongTo points.now.vectors lists.now }
-    requires edges { lists.now.edges ≡ edges_of points.now.vectors lists.now.rows }
-    ensures rows { IfOk result (λ n. n.rows.rows ≡ next_rows points.now.vectors lists.now.list lists.now.rows) }
-    ensures width { IfOk result (λ n. n.rows.width ≡ lists.now.list) }
-    ensures edges { IfOk result (λ n. n.edges ≡ edges_of points.now.vectors (next_rows points.now.vectors lists.now.list lists.now.rows)) }
-    ensures others { IfOk result (λ n. n.others.rows ≡ map (others_of points.now.vectors lists.now.list lists.now.rows) (range_with_len 0 (length points.now.vectors))) }
-    ensures moved { IfOk result (λ n. length n.moved.items ≡ length points.now.vectors) }
-    ensures workers { P.count pool.new ≡ P.count pool.old }
-{
-    let improved = next_lists(rt, alloc, points, lists, pool, gate)?;
-    let edges = Edges::of(alloc, points, &improved.rows)?;
-    let moved = vec![in alloc; false; points.count() as usize]?;
-    Ok(Next {
-        rows: improved.rows,
-        others: improved.others,
-        edges,
-        moved,
-    })
 }

@@ -1,10 +1,8 @@
 -- What is gathered of both directions.
-use Rattle.std.proofs.Common.{◌≡◌, ℕ, ◌<◌, ◌≤◌, true, not, eqb, List, [], ◌∷◌, ◌++◌, map, length, sym, ap, ◌∙◌, subst, inl, inr, arith}
+use Rattle.std.proofs.Common.{◌≡◌, ℕ, ◌<◌, ◌≤◌, true, not, List, [], ◌++◌, map, take, drop, length, sym, ap, ◌∙◌, subst, inl, inr, arith}
 use Rattle.std.specs.Prelude.{◌==◌}
-use Rattle.std.specs.List.{All, filter, range_with_len, list_any}
-use Rattle.std.proofs.lemmas.Bool.{eqb-true, or_cases}
+use Rattle.std.specs.List.{All, filter, range_with_len}
 use Rattle.std.proofs.lemmas.List.{length-map}
-use Rattle.std.proofs.lemmas.Map.Steps.{length-le_from_distinct_below}
 use Rattle.ann_defs.specs.declared.near.Near.{Near}
 use Rattle.ann_defs.specs.Distance.{point}
 use Rattle.ann_defs.specs.Nearness.{near_cmp, near_of, all_near, ids_of}
@@ -17,10 +15,11 @@ use Rattle.ann_defs.proofs.NearOrder.{near_order}
 use Rattle.ann_defs.proofs.GoodRows.{rising_once}
 use Rattle.ann_defs.proofs.Members.{all_from_has, has-mapped, has-append, append-has, has-filter, filter_has, has_true, true_has, same_bool, range_has, distinct_once}
 use Rattle.near_lists.specs.Gathered.{gathered, IsGathered}
-use Rattle.near_lists.proofs.Gathering.{is_gathered}
+use Rattle.near_lists.proofs.Gathering.{is_gathered, few_distinct}
 use Rattle.neighbour_lists.specs.declared.edge.Edge.{Edge}
 use Rattle.neighbour_lists.specs.Edges.{edges_of}
 use Rattle.neighbour_lists.specs.ListRound.{sources_of}
+use Rattle.neighbour_lists.proofs.Offers.{written_is}
 use Rattle.neighbour_lists.proofs.Reversing.{sources_are}
 
 module _ (points rows : List (List ℕ)) (list v : ℕ) (good : AreGoodRows (length points) list rows) where
@@ -73,21 +72,13 @@ module _ (points rows : List (List ℕ)) (list v : ℕ) (good : AreGoodRows (len
   pub sources_few : length edges_to ≤ length points
   sources_few =
       let up : Rises near_cmp nears = subst (Rises near_cmp) listed (Rises-fold_put near_cmp near_order [] by_source tt) in
-      let ids = ids_of nears in
       let once = rising_once points (point points v) nears up near_right in
-      let short : length ids ≤ length points =
-      length-le_from_distinct_below ids (length points) (distinct_once ids once) (λ q h.
-      let from = has-map (λ (x : Near). x.id) nears q (any_has ids q h) in
-      subst (λ u. u < length points) from.2 (All_has (λ (x : Near). x.id < length points) nears from.0 sources_inside from.1)) in
-      let same : length ids ≡ length edges_to = length-map nears (λ (x : Near). x.id) ∙ length-map edges_to (λ (e : Edge). e.source) in
-      subst (λ k. k ≤ length points) same short
-    where
-      any_has : (xs : List ℕ) (q : ℕ) → list_any (eqb q) xs ≡ true → Has xs q
-      any_has [] q h = cc
-      any_has (x ∷ xs) q h = elim (or_cases (q == x) (list_any (eqb q) xs) h) as (λ _. Has (x ∷ xs) q) [
-        | inl e ↦ inl (sym (eqb-true q x e))
-        | inr m ↦ inr (any_has xs q m)
-      ]
+      subst (λ k. k ≤ length points) (length-map edges_to (λ (e : Edge). e.source)) (few_distinct (length points) nears sources_inside (distinct_once (ids_of nears) once))
+
+  -- the sources that were copied over the front of a list as long
+  pub copied : (n count : ℕ) (written old lent : List Near) (to edges : List Edge) → length written ≡ n → lent ≡ take n (written ++ drop (length written) old) → take count written ≡ map (λ (e : Edge). e.source) to → to ≡ filter (λ e. e.target == v) edges → edges ≡ edges_of points rows → take count lent ≡ nears
+  copied n count written old lent to edges long is list of_v all =
+      ap (take count) (is ∙ written_is n written old long) ∙ list ∙ ap (map (λ (e : Edge). e.source)) (of_v ∙ ap (filter (λ (e : Edge). e.target == v)) all)
 
   to_both : (u : ℕ) → Has (ids_of nears ++ row_in rows v) u → Has both u
   to_both u h =

@@ -1,7 +1,6 @@
 -- How far a kept id removes a candidate.
 use Rattle.std.proofs.Common.{◌≡◌, ℕ, ◌*◌, ◌/◌, ◌<◌, List, sym, ap, ◌∙◌, subst}
 use Rattle.std.specs.Prelude.{nat_lt}
-use Rattle.std.specs.List.{list_all}
 use Rattle.std.proofs.Math.Nat.{div-lt_iff_lt-mul, mul_comm}
 use Rattle.std.proofs.lemmas.Bool.{ltb-true, lt-ltb}
 use Rattle.ann_defs.specs.declared.near.Near.{Near}
@@ -18,8 +17,7 @@ beyond_is num den near far some =
     (λ h. lt-ltb (den * near) (num * far) (subst (λ m. den * near < m) turned (both.0 (ltb-true (den * near / num) far h))))
     (λ h. lt-ltb (den * near / num) far (both.1 (subst (λ m. den * near < m) (sym turned) (ltb-true (den * near) (num * far) h))))
 
--- so a candidate stays beside those that it is farther from
-pub beyond_all : (points : List (List ℕ)) (num den most : ℕ) (x : Near) → 0 < num → most ≡ den * x.dist / num → (ids : List ℕ) → list_all (λ c. nat_lt most (dist_of (point points c) (point points x.id))) ids ≡ list_all (λ c. stays points num den c x) ids
-beyond_all points num den most x some is ids =
-    ap (λ m. list_all (λ c. nat_lt m (dist_of (point points c) (point points x.id))) ids) is
-    ∙ (λ i. list_all (λ c. beyond_is num den x.dist (dist_of (point points c) (point points x.id)) some i) ids)
+-- so a candidate stays beside one that it is farther from
+pub beyond_one : (points : List (List ℕ)) (num den most : ℕ) (x : Near) (c : ℕ) → 0 < num → most ≡ den * x.dist / num → nat_lt most (dist_of (point points c) (point points x.id)) ≡ stays points num den c x
+beyond_one points num den most x c some is =
+    ap (λ m. nat_lt m (dist_of (point points c) (point points x.id))) is ∙ beyond_is num den x.dist (dist_of (point points c) (point points x.id)) some

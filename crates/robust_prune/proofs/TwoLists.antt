@@ -57,7 +57,7 @@ is_less Less h = refl
 is_less Equal h = absurd (true≢false (sym h))
 is_less Greater h = absurd (true≢false (sym h))
 
-pub not_less : (x y : Near) → is_lt (near_cmp x y) ≡ false → (x ≡ y → ⊥) → near_cmp y x ≡ Less
+not_less : (x y : Near) → is_lt (near_cmp x y) ≡ false → (x ≡ y → ⊥) → near_cmp y x ≡ Less
 not_less x y h n =
     near_order.total.antisymm y x
     ∙ elim (near_cmp x y) as (λ r. near_cmp x y ≡ r → is_lt r ≡ false → ordering_reverse r ≡ Less) [
@@ -181,7 +181,7 @@ module _ (beside : ℕ → Near → Bool) where
     split = λ c h. absurd h;
   }
 
-  module _ (r : ℕ) (settled others now : List Near) (out : List ℕ) (i j fresh len : ℕ) (d : Near) (up : Rises near_cmp settled) (higher : Rises near_cmp others) (spread : IsSpread beside settled) (k : IsAmong r settled others now out i j fresh len) where
+  module _ (r : ℕ) (settled others now : List Near) (out : List ℕ) (i j fresh len : ℕ) (d : Near) (up : Rises near_cmp settled) (higher : Rises near_cmp others) (spread : IsSpread beside settled) (distinct : (z : Near) → Has settled z → Has others z → ⊥) (k : IsAmong r settled others now out i j fresh len) where
     -- a settled one is tested against the others that are kept
     pub settled_test : i < length settled → passes beside (take len out) (get_or settled i d) ≡ passes beside (ids_of (take fresh now)) (get_or settled i d)
     settled_test within =
@@ -203,9 +203,27 @@ module _ (beside : ℕ → Near → Bool) where
           | inr m ↦ inr (m.0, subst (λ (xs : List Near). Has xs m.0) (take_next settled i) (take_on settled i m.0 m.1), m.2)
         ]
 
-    pub settled_no : i < length settled → (j < length others → near_cmp (get_or settled i d) (get_or others j d) ≡ Less) → passes beside (ids_of (take fresh now)) (get_or settled i d) ≡ false → IsAmong r settled others now out (i + 1) j fresh len
-    settled_no within first h = record {
-      so_far = goes_no r len out _ _ (get_or settled i d) _ (next_settled settled others up higher d i j within first) (settled_test within ∙ h) k.so_far;
+    other_at : j < length now → j < length others
+    other_at far = subst (λ m. j < m) k.same far
+
+    -- the next of the others, and what comes behind it, are as they were
+    as_before : j < length others → (get_or now j d ∷ drop (j + 1) now) ≡ (get_or others j d ∷ drop (j + 1) others)
+    as_before within =
+        let far : j < length now = rw k.same within in
+        sym (drop_more now j d far) ∙ k.left ∙ drop_more others j d within
+
+    still_there : j < length others → get_or now j d ≡ get_or others j d
+    still_there within = ap (λ (xs : List Near). get_or xs 0 d) (as_before within)
+
+    next_left : j < length now → drop (j + 1) now ≡ drop (j + 1) others
+    next_left far = ap (drop 1) (as_before (other_at far))
+
+    next_first : (j < length now → is_lt (near_cmp (get_or settled i d) (get_or now j d)) ≡ true) → j < length others → near_cmp (get_or settled i d) (get_or others j d) ≡ Less
+    next_first before h = is_less _ (subst (λ (y : Near). is_lt (near_cmp (get_or settled i d) y) ≡ true) (still_there h) (before (rw k.same h)))
+
+    pub settled_no : i < length settled → (j < length now → is_lt (near_cmp (get_or settled i d) (get_or now j d)) ≡ true) → passes beside (ids_of (take fresh now)) (get_or settled i d) ≡ false → IsAmong r settled others now out (i + 1) j fresh len
+    settled_no within before h = record {
+      so_far = goes_no r len out _ _ (get_or settled i d) _ (next_settled settled others up higher d i j within (next_first before)) (settled_test within ∙ h) k.so_far;
       left = k.left;
       same = k.same;
       bound = k.bound;
@@ -216,13 +234,13 @@ module _ (beside : ℕ → Near → Bool) where
       split = λ c m. on_settled c (k.split c m);
     }
 
-    pub settled_yes : i < length settled → (j < length others → near_cmp (get_or settled i d) (get_or others j d) ≡ Less) → passes beside (ids_of (take fresh now)) (get_or settled i d) ≡ true → len < r → len < length out
+    pub settled_yes : i < length settled → (j < length now → is_lt (near_cmp (get_or settled i d) (get_or now j d)) ≡ true) → passes beside (ids_of (take fresh now)) (get_or settled i d) ≡ true → len < r → len < length out
         → IsAmong r settled others now (set out len (get_or settled i d).id) (i + 1) j fresh (len + 1)
-    settled_yes within first h room fits =
+    settled_yes within before h room fits =
         let x = get_or settled i d in
         let more : take (len + 1) (set out len x.id) ≡ take len out ++ x.id ∷ [] = take_more_set out len x.id fits in
         record {
-          so_far = goes_yes r len out _ _ x _ (next_settled settled others up higher d i j within first) (settled_test within ∙ h) room fits k.so_far;
+          so_far = goes_yes r len out _ _ x _ (next_settled settled others up higher d i j within (next_first before)) (settled_test within ∙ h) room fits k.so_far;
           left = k.left;
           same = k.same;
           bound = omega arith;
@@ -236,49 +254,45 @@ module _ (beside : ℕ → Near → Bool) where
           ];
         }
 
-    next_left : j < length others → drop (j + 1) now ≡ drop (j + 1) others
-    next_left within =
-        let far : j < length now = rw k.same within in
-        let both : (get_or now j d ∷ drop (j + 1) now) ≡ (get_or others j d ∷ drop (j + 1) others) = sym (drop_more now j d far) ∙ k.left ∙ drop_more others j d within in
-        ap (drop 1) both
+    next_there : j < length now → (i < length settled → is_lt (near_cmp (get_or settled i d) (get_or now j d)) ≡ false) → ordered near_cmp (drop i settled ++ drop j others) ≡ get_or now j d ∷ ordered near_cmp (drop i settled ++ drop (j + 1) others)
+    next_there far behind =
+        let at = other_at far in
+        let same = still_there at in
+        let x = get_or settled i d in
+        next_other settled others up higher d i j at
+        (λ h. not_less x (get_or others j d) (subst (λ (z : Near). is_lt (near_cmp x z) ≡ false) same (behind h))
+        (λ e. distinct x (get_has settled i d h) (subst (Has others) (sym e) (get_has others j d at))))
+        ∙ ap (λ (z : Near). z ∷ ordered near_cmp (drop i settled ++ drop (j + 1) others)) (sym same)
 
-    -- the next of the others is as it was
-    pub still_there : j < length others → get_or now j d ≡ get_or others j d
-    still_there within =
-        let far : j < length now = rw k.same within in
-        let both : (get_or now j d ∷ drop (j + 1) now) ≡ (get_or others j d ∷ drop (j + 1) others) = sym (drop_more now j d far) ∙ k.left ∙ drop_more others j d within in
-        ap (λ (xs : List Near). get_or xs 0 d) both
-
-    pub other_no : j < length others → (i < length settled → near_cmp (get_or others j d) (get_or settled i d) ≡ Less) → passes beside (take len out) (get_or others j d) ≡ false → IsAmong r settled others now out i (j + 1) fresh len
-    other_no within first h = record {
-      so_far = goes_no r len out _ _ (get_or others j d) _ (next_other settled others up higher d i j within first) h k.so_far;
-      left = next_left within;
+    pub other_no : j < length now → (i < length settled → is_lt (near_cmp (get_or settled i d) (get_or now j d)) ≡ false) → passes beside (take len out) (get_or now j d) ≡ false → IsAmong r settled others now out i (j + 1) fresh len
+    other_no far behind h = record {
+      so_far = goes_no r len out _ _ (get_or now j d) _ (next_there far behind) h k.so_far;
+      left = next_left far;
       same = k.same;
       bound = k.bound;
       few = let few = k.few in omega (arith, few);
       first_bound = k.first_bound;
-      other_bound = omega arith;
+      other_bound = let at = other_at far in omega arith;
       within = k.within;
       split = k.split;
     }
 
-    pub other_yes : j < length others → (i < length settled → near_cmp (get_or others j d) (get_or settled i d) ≡ Less) → passes beside (take len out) (get_or others j d) ≡ true → len < r → len < length out
-        → IsAmong r settled others (set now fresh (get_or others j d)) (set out len (get_or others j d).id) i (j + 1) (fresh + 1) (len + 1)
-    other_yes within first h room fits =
-        let y = get_or others j d in
+    pub other_yes : j < length now → (i < length settled → is_lt (near_cmp (get_or settled i d) (get_or now j d)) ≡ false) → passes beside (take len out) (get_or now j d) ≡ true → len < r → len < length out
+        → IsAmong r settled others (set now fresh (get_or now j d)) (set out len (get_or now j d).id) i (j + 1) (fresh + 1) (len + 1)
+    other_yes far behind h room fits =
+        let y = get_or now j d in
         let few = k.few in
-        let same = k.same in
         let more : take (len + 1) (set out len y.id) ≡ take len out ++ y.id ∷ [] = take_more_set out len y.id fits in
-        let front : fresh < length now = omega (arith, few, same, within) in
+        let front : fresh < length now = omega (arith, few, far) in
         let kept_more : take (fresh + 1) (set now fresh y) ≡ take fresh now ++ y ∷ [] = take_more_set now fresh y front in
         record {
-          so_far = goes_yes r len out _ _ y _ (next_other settled others up higher d i j within first) h room fits k.so_far;
-          left = drop-set-lt (j + 1) now fresh y (omega (arith, few)) ∙ next_left within;
-          same = length-set now fresh y ∙ same;
+          so_far = goes_yes r len out _ _ y _ (next_there far behind) h room fits k.so_far;
+          left = drop-set-lt (j + 1) now fresh y (omega (arith, few)) ∙ next_left far;
+          same = length-set now fresh y ∙ k.same;
           bound = omega arith;
           few = omega (arith, few);
           first_bound = k.first_bound;
-          other_bound = omega arith;
+          other_bound = let at = other_at far in omega arith;
           within = λ z m. subst (λ (xs : List ℕ). Has xs z.id) (sym more) (append-has (take len out) (y.id ∷ []) z.id
               (elim (has-push (take fresh now) y z (subst (λ (xs : List Near). Has xs z) kept_more m)) as (λ _. Has (take len out) z.id ⊎ Has (y.id ∷ []) z.id) [ inl m ↦ inl (k.within z m) | inr e ↦ inr (inl (ap (λ (w : Near). w.id) e)) ]));
           split = λ c m. elim (has-push (take len out) y.id c (subst (λ (xs : List ℕ). Has xs c) more m)) as (λ _. ((z : Near) × Has (take (fresh + 1) (set now fresh y)) z × (z.id ≡ c)) ⊎ ((z : Near) × Has (take i settled) z × (z.id ≡ c))) [

@@ -1,8 +1,7 @@
 //! RobustPrune where some of the candidates are apart already.
-ghost use Rattle.std.specs.Prelude.{◌≡◌, ◌+◌, ◌<◌, ◌≤◌, ◌++◌, true, false, nat_lt, length, take, drop, slice_index_or};
+ghost use Rattle.std.specs.Prelude.{◌≡◌, ◌+◌, ◌<◌, ◌≤◌, ◌++◌, true, false, length, take, drop, slice_index_or};
 ghost use Rattle.std.specs.List.{All, list_all};
 ghost use Rattle.std.specs.Ordering.{is_lt};
-ghost use Rattle.ann_defs.specs.Distance.{dist_of, point};
 ghost use Rattle.ann_defs.specs.declared.near.Near.{Near};
 ghost use Rattle.ann_defs.specs.Graph.{IsGoodRow};
 ghost use Rattle.ann_defs.specs.Nearness.{near_cmp, ids_of};
@@ -126,22 +125,9 @@ fn stays_beside_those(points: &Points, alpha: Alpha, nears: &[Near], candidate: 
     requires candidate { candidate.id < length points.now.vectors }
     ensures { result ≡ list_all (λ c. stays points.now.vectors alpha.num alpha.den c candidate) (ids_of nears.now) }
 {
-    is_beyond_those(
-        points,
-        nears,
-        candidate.id,
-        most_covered(alpha, candidate.dist),
-    )
-}
-
-// Whether a point is farther than that from each of these.
-fn is_beyond_those(points: &Points, nears: &[Near], id: u32, most: u32) -> bool
-    requires nears { All (λ x. x.id < length points.now.vectors) nears.now }
-    requires id { id < length points.now.vectors }
-    ensures { result ≡ list_all (λ c. nat_lt most (dist_of (point points.now.vectors c) (point points.now.vectors id))) (ids_of nears.now) }
-{
+    let most = most_covered(alpha, candidate.dist);
     for near in nears {
-        if !is_beyond(points, near.id, id, most) {
+        if !is_beyond(points, near.id, candidate.id, most) {
             return false;
         }
     }

@@ -117,22 +117,9 @@ pub(crate) fn stays_beside_all(points: &Points, alpha: Alpha, row: &[u32], candi
     requires candidate { candidate.id < length points.now.vectors }
     ensures { result ≡ list_all (λ c. stays points.now.vectors alpha.num alpha.den c candidate) row.now }
 {
-    is_beyond_all(
-        points,
-        row,
-        candidate.id,
-        most_covered(alpha, candidate.dist),
-    )
-}
-
-// Whether a point is farther than that from each id of the row.
-fn is_beyond_all(points: &Points, row: &[u32], id: u32, most: u32) -> bool
-    requires row { All (λ c. c < length points.now.vectors) row.now }
-    requires id { id < length points.now.vectors }
-    ensures { result ≡ list_all (λ c. nat_lt most (dist_of (point points.now.vectors c) (point points.now.vectors id))) row.now }
-{
+    let most = most_covered(alpha, candidate.dist);
     for neighbour in row {
-        if !is_beyond(points, *neighbour, id, most) {
+        if !is_beyond(points, *neighbour, candidate.id, most) {
             return false;
         }
     }

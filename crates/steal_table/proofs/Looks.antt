@@ -1,6 +1,7 @@
 -- A load in the sweep changes nothing.
 use Rattle.std.proofs.Common.{◌≡◌, ◌≢◌, ℕ, ◌+◌, ◌*◌, ◌/◌, ◌<◌, ◌≤◌, ◌-◌, set, Some, None, true, refl, sym, ap, ◌∙◌, subst, inl, inr, ⊎_elim, arith, slice_index}
-use mathlib.Core.Option.{none}
+use mathlib.Core.Option.{none, some}
+use lib.ListN.{get_elem?}
 use Rattle.atomic_table.specs.Table.{keeps, Allows, step}
 use Rattle.atomic_table.proofs.Lists.{set_again}
 use Rattle.steal_table.specs.declared.view.Size.{Size}
@@ -21,9 +22,12 @@ shows size s r id v l free all t n (done i) says e = let o = all_done size s r i
     let workers = ap (λ (z : Size). z.workers) (r.sized id v l) in let most = done_most size s r t i says in let same : o.0.worker ≡ i = cc in
     inr (o.0, o.1, o.2, e ∙ ap code (sym is), (let most' : o.0.worker ≤ size.workers = omega arith in omega arith))
 
-pub looks : (size : Size) (slots id t : ℕ) (m : Seated) → m.0.live ≡ true → t < size.tasks → Allows (Rule size) slots id m (t + 1) (λ n. n) (looked (step slots (t + 1) 0 0 none) m)
-looks size slots id t m live below s r count at fits = let q = r.each_word t below in let is = index_at s.words (t + 1) (code q.0) q.1 in let task : t ≡ t + 1 - 1 = omega arith in
-    let words : set s.words (t + 1) (slice_index s.words (t + 1)) ≡ s.words = ap (set s.words (t + 1)) is ∙ set_again s.words (t + 1) (code q.0) q.1 in (
+-- a load of a word that the rule gives, with what it tells
+loads : (size : Size) (slots id k : ℕ) (m : Seated) → m.0.live ≡ true
+    → ((s : Table) → Rule size s → Live s id m.0 → (n : ℕ) × (get_elem? s.words k ≡ some n) × (0 < k → m.0.held ≡ None → AllBack m.0 → Shown m.0 (k - 1) n))
+    → Allows (Rule size) slots id m k (λ n. n) (looked (step slots k 0 0 none) m)
+loads size slots id k m live gives s r count at fits = let q = gives s r (at, live) in let is = index_at s.words k q.0 q.1 in
+    let words : set s.words k (slice_index s.words k) ≡ s.words = ap (set s.words k) is ∙ set_again s.words k q.0 q.1 in (
       m.0,
       keeps,
       tt,
@@ -31,24 +35,17 @@ looks size slots id t m live below s r count at fits = let q = r.each_word t bel
       (
         refl,
         (λ i j e f a b same. (r.entry_once id id i j m.0 m.0 e f (at, live) (at, live) a b same).1),
-        (λ above free all. subst (λ (j : ℕ). Shown m.0 j (slice_index s.words (t + 1))) task (shows size s r id m.0 (at, live) free all t (slice_index s.words (t + 1)) q.0 q.1 is)),
+        (λ above free all. subst (Shown m.0 (k - 1)) (sym is) (q.2 above free all)),
       ),
     )
 
+pub looks : (size : Size) (slots id t : ℕ) (m : Seated) → m.0.live ≡ true → t < size.tasks → Allows (Rule size) slots id m (t + 1) (λ n. n) (looked (step slots (t + 1) 0 0 none) m)
+looks size slots id t m live below = loads size slots id (t + 1) m live (λ s r l. let q = r.each_word t below in let task : t ≡ t + 1 - 1 = omega arith in
+    (code q.0, q.1, (λ above free all. subst (λ (j : ℕ). Shown m.0 j (code q.0)) task (shows size s r id m.0 l free all t (code q.0) q.0 q.1 refl))))
+
 -- a load of word 0, which is no task's
 pub looks_first : (size : Size) (slots id : ℕ) (m : Seated) → m.0.live ≡ true → Allows (Rule size) slots id m 0 (λ n. n) (looked (step slots 0 0 0 none) m)
-looks_first size slots id m live s r count at fits = let is = index_at s.words 0 0 r.first_word in
-    let words : set s.words 0 (slice_index s.words 0) ≡ s.words = ap (set s.words 0) is ∙ set_again s.words 0 0 r.first_word in (
-      m.0,
-      keeps,
-      tt,
-      subst (Rule size) (sym (λ i. record { words = words i; homes = s.homes; views = set_again s.views id m.0 at i })) r,
-      (
-        refl,
-        (λ i j e f a b same. (r.entry_once id id i j m.0 m.0 e f (at, live) (at, live) a b same).1),
-        (λ (above : 0 < 0). absurd (omega arith)),
-      ),
-    )
+looks_first size slots id m live = loads size slots id 0 m live (λ s r l. (0, r.first_word, (λ (above : 0 < 0). absurd (omega arith))))
 
 -- what a load tells, with the task for itself
 pub tells_look : (t n : ℕ) (m m' : Seated) → (m' ≡ m) × OnePerTask m.0 × (0 < t + 1 → m.0.held ≡ None → AllBack m.0 → Shown m.0 (t + 1 - 1) n) → m.0.held ≡ None → AllBack m.0 → Shown m.0 t n

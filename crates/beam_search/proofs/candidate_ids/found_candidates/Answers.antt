@@ -1,53 +1,24 @@
-use Rattle.std.proofs.Common.{◌≡◌, ◌∷◌, [], ◌++◌, true, inl, inr, length, take, ℕ, List, sym, ap, refl, subst, ◌∙◌, arith}
-use Rattle.std.specs.Prelude.{nat_eq, ◌+◌, ◌<◌, ◌≤◌, ◌⊎◌}
-use Rattle.std.specs.List.{All, IsDistinct, list_any}
-use Rattle.std.proofs.lemmas.Bool.{or_cases, eqb-true}
-use Rattle.std.proofs.lemmas.List.{length-map}
-use Rattle.std.proofs.lemmas.Map.Steps.{length-le_from_distinct_below}
-use Rattle.ann_defs.specs.Ordered.{Has}
-use Rattle.ann_defs.proofs.Order.{has-map, All_has}
+use Rattle.std.proofs.Common.{◌≡◌, length, take, List, sym, ap, refl, subst, ◌∙◌, arith}
+use Rattle.std.specs.Prelude.{◌+◌, ◌≤◌}
 use Rattle.std.specs.Vec.{with_items, with_items_from}
 use Rattle.ann_defs.specs.declared.near.Near.{Near}
-use Rattle.ann_defs.specs.Distance.{point}
-use Rattle.ann_defs.specs.Nearness.{all_near, ids_of}
+use Rattle.near_lists.proofs.Gathering.{few_distinct}
 use Rattle.beam_search.specs.Room.{Room}
-use Rattle.near_lists.specs.Gathered.{IsGathered}
-use Rattle.near_lists.specs.Marks.{AreUpTo}
-use Rattle.near_lists.proofs.Gathering.{is_gathered}
-use Rattle.beam_search.proofs.Lent.{lent_gathered, written_is}
+use Rattle.beam_search.proofs.Lent.{lent_gathered, lent_marks}
 use Rattle.beam_search.proofs.candidate_ids.found_candidates.Goals as goal
 
 pub invariant_of-scratch-lent : goal.invariant_of-scratch-lent
 invariant_of-scratch-lent c = λ w.
-    let lent = with_items_from (with_items c.scratch.inside.room c.gather_anew-len.new.room) 0 w in
-    let long : length c.gather_anew-len.new.marks ≡ c.scratch.inside.marks.len = c.gather_anew-len.auto.marks ∙ c.deref_mut-2.ensures.len in
-    let marks = written_is c.scratch.inside.marks.len c.gather_anew-len.new.marks c.scratch.inside.marks.items long in (
-      c.scratch.invariant.0,
-      c.scratch.invariant.1,
-      sym lent.ok.0 ∙ c.scratch.inside.room.ok.0 ∙ c.scratch.invariant.2,
-      ap length marks ∙ long ∙ c.scratch.inside.marks.ok.0 ∙ c.scratch.invariant.3,
-      subst (AreUpTo c.gather_anew-len.result.1) (sym marks) c.gather_anew-len.ensures.marks,
-      c.scratch.invariant.5,
-    )
-
-has_any : (xs : List ℕ) (q : ℕ) → list_any (nat_eq q) xs ≡ true → Has xs q
-has_any [] q h = cc
-has_any (x ∷ xs) q h = elim (or_cases (nat_eq q x) (list_any (nat_eq q) xs) h) as (λ _. (x ≡ q) ⊎ Has xs q) [ inl e ↦ inl (sym (eqb-true q x e)) | inr m ↦ inr (has_any xs q m) ]
-
--- distinct points are at most all of them
-few_found : (n : ℕ) (nears : List Near) → All (λ (x : Near). x.id < n) nears → IsDistinct nat_eq (ids_of nears) → length nears ≤ n
-few_found n nears below distinct =
-    let few : length (ids_of nears) ≤ n =
-    length-le_from_distinct_below (ids_of nears) n distinct (λ q h.
-    let from = has-map (λ (x : Near). x.id) nears q (has_any (ids_of nears) q h) in
-    subst (λ (u : ℕ). u < n) from.2 (All_has (λ (x : Near). x.id < n) nears from.0 below from.1)) in
-    subst (λ m. m ≤ n) (length-map nears (λ (x : Near). x.id)) few
+    let room = with_items_from (with_items c.scratch.inside.room c.gather_anew-len.new.room) 0 w in
+    let held = c.scratch.inside.marks in
+    let marks = lent_marks held.len _ c.gather_anew-len.result.1 c.gather_anew-len.new.marks held.items (c.gather_anew-len.auto.marks ∙ c.deref_mut-2.ensures.len) (held.ok.0 ∙ c.scratch.invariant.3) c.gather_anew-len.ensures.marks in
+    (c.scratch.invariant.0, c.scratch.invariant.1, sym room.ok.0 ∙ c.scratch.inside.room.ok.0 ∙ c.scratch.invariant.2, marks.0, marks.1, c.scratch.invariant.5)
 
 pub gather_anew-len-requires-clause-room : goal.gather_anew-len-requires-clause-room
 gather_anew-len-requires-clause-room c =
     let n = length c.args.points.now.vectors in
     let found : take c.scratch.inside.found_len c.deref.result.now ≡ c.args.scratch.now.last.found = ap (take c.scratch.inside.found_len) c.deref.ensures.value ∙ ap (λ (r : Room). r.last.found) c.scratch.view_is in
-    let few : length (take c.scratch.inside.found_len c.deref.result.now) ≤ n = subst (λ (xs : List Near). length xs ≤ n) (sym found) (few_found n c.args.scratch.now.last.found c.requires.in_range c.requires.distinct) in
+    let few : length (take c.scratch.inside.found_len c.deref.result.now) ≤ n = subst (λ (xs : List Near). length xs ≤ n) (sym found) (few_distinct n c.args.scratch.now.last.found c.requires.in_range c.requires.distinct) in
     let room : length c.scratch.inside.room.items ≡ length c.scratch.inside.visited.items + 128 = c.scratch.invariant.2 in
     let count : length c.scratch.inside.visited.items ≡ n = ap (λ (r : Room). r.count) c.scratch.view_is ∙ c.requires.points in
     let lent : length c.deref_mut.result.now ≡ length c.scratch.inside.room.items = ap length c.deref_mut.ensures.value in
@@ -56,15 +27,7 @@ gather_anew-len-requires-clause-room c =
 
 pub returns : goal.returns
 returns c =
-    let points = c.args.points.now.vectors in
-    let p = c.args.p in
-    let last = c.args.scratch.now.last.found in
-    let extra = c.args.extra.now in
+    let room = c.scratch.inside.room in
     let same = ap (take c.scratch.inside.found_len) c.deref.ensures.value ∙ ap (λ (r : Room). r.last.found) c.scratch.view_is in
-    let list = lent_gathered p c.scratch.inside.room.len c.gather_anew-len.result.0 last (take c.scratch.inside.found_len c.deref.result.now) (all_near points (point points p) extra) c.slice_mut.result.now c.gather_anew-len.new.room c.scratch.inside.room.items same (c.gather_anew-len.auto.room ∙ c.deref_mut.ensures.len) c.slice_mut.ensures.value c.gather_anew-len.ensures.list in (
-      (refl, λ w. c.scratch.view_is),
-      record {
-        stays = tt;
-        gathered = subst (λ (xs : List Near). IsGathered points p (ids_of last ++ extra) xs) (sym list) (is_gathered points p last extra c.requires.in_range c.requires.near c.requires.extra);
-      },
-    )
+    let gathered = lent_gathered c.args.points.now.vectors c.args.p room.len c.gather_anew-len.result.0 c.args.scratch.now.last.found (take c.scratch.inside.found_len c.deref.result.now) c.args.extra.now c.slice_mut.result.now c.gather_anew-len.new.room room.items same (c.gather_anew-len.auto.room ∙ c.deref_mut.ensures.len) c.slice_mut.ensures.value c.gather_anew-len.ensures.list c.requires.in_range c.requires.near c.requires.extra in
+    ((refl, λ w. c.scratch.view_is), record { stays = tt; gathered = gathered })

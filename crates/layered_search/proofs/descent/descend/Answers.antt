@@ -2,17 +2,14 @@ use Rattle.std.proofs.Common.{◌≡◌, ◌<◌, ◌∷◌, [], ◌∙◌, ℕ,
 use Rattle.std.specs.Prelude.{nat_lt}
 use Rattle.std.proofs.lemmas.Bool.{lt-ltb, ltb-true}
 use Rattle.std.proofs.lemmas.List.Elements.{All-nil, All-cons}
-use Rattle.ann_defs.specs.Graph.{AreGoodRows}
 use Rattle.ann_defs.proofs.GoodGraphs.{good_graph}
 use Rattle.beam_search.specs.Room.{Room}
 use Rattle.graph_rows.specs.Layers.{Layered}
 use Rattle.graph_rows.specs.View.{contents}
 use Rattle.graph_rows.specs.WellFormed.{base_bound}
-use Rattle.graph_rows.proofs.FlatIndex.{base_good}
-use Rattle.graph_rows.proofs.LayerLists.{rows_enumerate}
 use Rattle.layered_search.specs.Entering.{AreEnterable, upper_row}
 use Rattle.layered_search.specs.KnnSearch.{entries_down}
-use Rattle.layered_search.proofs.Enterable.{further_enterable}
+use Rattle.layered_search.proofs.Enterable.{further_enterable, base_rows}
 use Rattle.layered_search.proofs.Descending.{descended}
 use Rattle.layered_search.proofs.descent.descend.Goals as goal
 
@@ -25,22 +22,18 @@ enter-entry-requires-clause-layers c =
 
 pub search-requires-clause-graph : goal.search-requires-clause-graph
 search-requires-clause-graph c =
-    let i = contents c.args.index.now in
+    let i = c.args.index.now in
     let n = length c.args.points.now.vectors in
-    let rows = c.args.index.now.base.rows in
-    let bound = base_bound i.kind i.degree in
-    let good = subst (λ (m : ℕ). AreGoodRows m bound rows) c.requires.count (subst (λ (held : List (List ℕ)). AreGoodRows i.count bound held) (rows_enumerate 0 rows) (base_good i c.requires.index)) in
-    good_graph n bound (λ u. nat_lt u (length rows)) rows
+    let rows = i.base.rows in
+    let good = base_rows n i c.requires.index c.requires.count in
+    good_graph n (base_bound (contents i).kind i.degree) (λ u. nat_lt u (length rows)) rows
     (λ u h. subst (λ (m : ℕ). u < m) good.count (ltb-true u (length rows) h))
     (λ u h. lt-ltb u (length rows) (subst (λ (m : ℕ). u < m) (sym good.count) h)) good
 
 pub search-requires-clause-starts : goal.search-requires-clause-starts
 search-requires-clause-starts c =
-    let i = contents c.args.index.now in
-    let n = length c.args.points.now.vectors in
     let rows = c.args.index.now.base.rows in
-    let bound = base_bound i.kind i.degree in
-    let good = subst (λ (m : ℕ). AreGoodRows m bound rows) c.requires.count (subst (λ (held : List (List ℕ)). AreGoodRows i.count bound held) (rows_enumerate 0 rows) (base_good i c.requires.index)) in
+    let good = base_rows (length c.args.points.now.vectors) c.args.index.now c.requires.index c.requires.count in
     All-cons (λ u. nat_lt u (length rows) ≡ true) c.enter-entry.result []
     (lt-ltb c.enter-entry.result (length rows) (subst (λ (m : ℕ). c.enter-entry.result < m) (sym good.count) c.enter-entry.ensures.below))
     (All-nil (λ u. nat_lt u (length rows) ≡ true))

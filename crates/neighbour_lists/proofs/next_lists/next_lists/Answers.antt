@@ -42,17 +42,13 @@ returns-clause-rows g c =
 
 pub rows_without-requires-2-clause-seen : goal.rows_without-requires-2-clause-seen
 rows_without-requires-2-clause-seen g c =
-    let points = c.args.points.now.vectors in
     let held = c.lists.inside in
-    let many = others_count points held.rows.width held.rows.rows c.in_ok-others.others.rows c.in_ok-others.ensures.rows in
-    seen_count points _ c.args.lists.now c.lists.view_is c.requires.belong ∙ sym many
+    seen_count c.args.points.now.vectors _ c.args.lists.now c.lists.view_is c.requires.belong ∙ sym (others_count c.args.points.now.vectors held.rows.width held.rows.rows c.in_ok-others.others.rows c.in_ok-others.ensures.rows)
 
 pub rows_without-requires-2-clause-others : goal.rows_without-requires-2-clause-others
 rows_without-requires-2-clause-others g c =
-    let points = c.args.points.now.vectors in
     let held = c.lists.inside in
-    let many = others_count points held.rows.width held.rows.rows c.in_ok-others.others.rows c.in_ok-others.ensures.rows in
-    seen_others_count points _ c.args.lists.now c.lists.view_is c.requires.belong ∙ sym many
+    seen_others_count c.args.points.now.vectors _ c.args.lists.now c.lists.view_is c.requires.belong ∙ sym (others_count c.args.points.now.vectors held.rows.width held.rows.rows c.in_ok-others.others.rows c.in_ok-others.ensures.rows)
 
 pub invariant_of-rule-clause-new : goal.invariant_of-rule-clause-new
 invariant_of-rule-clause-new g c =

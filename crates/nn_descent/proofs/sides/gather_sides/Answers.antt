@@ -9,7 +9,7 @@ use Rattle.near_lists.specs.Gathered.{gathered, IsGathered}
 use Rattle.neighbour_lists.specs.declared.edge.Edge.{Edge}
 use Rattle.neighbour_lists.specs.ListRound.{sources_of}
 use Rattle.neighbour_lists.proofs.Offers.{written_is}
-use Rattle.nn_descent.proofs.SidesFacts.{edges_to, sources_few, sources_inside, both_gathered}
+use Rattle.nn_descent.proofs.SidesFacts.{edges_to, sources_few, sources_inside, copied, both_gathered}
 use Rattle.nn_descent.proofs.sides.gather_sides.Goals as goal
 
 pub copy_sources-count-requires : goal.copy_sources-count-requires
@@ -29,9 +29,8 @@ gather-requires-clause-in_range c =
     let points = c.args.points.now.vectors in
     let rows = c.args.rows.now.rows in
     let v = c.args.v in
-    let count = c.copy_sources-count.result in
-    let written = written_is c.args.sides.now.sources.len c.copy_sources-count.new.room c.args.sides.now.sources.items (c.copy_sources-count.auto.room ∙ c.deref_mut.ensures.len) in
-    let measured = ap (take count) (c.deref.ensures.value ∙ written) ∙ c.copy_sources-count.ensures.list ∙ ap (map (λ (e : Edge). e.source)) (c.to.ensures ∙ ap (filter (λ (e : Edge). e.target == v)) c.requires.edges) in
+    let room = c.args.sides.now.sources in
+    let measured = copied points rows c.args.rows.now.width v c.requires.good room.len c.copy_sources-count.result c.copy_sources-count.new.room room.items c.deref.result.now c.to.result.now c.args.edges.now (c.copy_sources-count.auto.room ∙ c.deref_mut.ensures.len) c.deref.ensures.value c.copy_sources-count.ensures.list c.to.ensures c.requires.edges in
     subst (All (λ (x : Near). x.id < length points)) (sym measured) (sources_inside points rows c.args.rows.now.width v c.requires.good)
 
 pub returns-clause-gathered : goal.returns-clause-gathered
@@ -39,9 +38,8 @@ returns-clause-gathered c =
     let points = c.args.points.now.vectors in
     let rows = c.args.rows.now.rows in
     let v = c.args.v in
-    let count = c.copy_sources-count.result in
-    let written = written_is c.args.sides.now.sources.len c.copy_sources-count.new.room c.args.sides.now.sources.items (c.copy_sources-count.auto.room ∙ c.deref_mut.ensures.len) in
-    let measured = ap (take count) (c.deref.ensures.value ∙ written) ∙ c.copy_sources-count.ensures.list ∙ ap (map (λ (e : Edge). e.source)) (c.to.ensures ∙ ap (filter (λ (e : Edge). e.target == v)) c.requires.edges) in
+    let room = c.args.sides.now.sources in
+    let measured = copied points rows c.args.rows.now.width v c.requires.good room.len c.copy_sources-count.result c.copy_sources-count.new.room room.items c.deref.result.now c.to.result.now c.args.edges.now (c.copy_sources-count.auto.room ∙ c.deref_mut.ensures.len) c.deref.ensures.value c.copy_sources-count.ensures.list c.to.ensures c.requires.edges in
     let cands = written_is c.args.sides.now.cands.len c.gather.new.room c.args.sides.now.cands.items (c.gather.auto.room ∙ c.deref_mut-3.ensures.len) in
     let is = ap (take c.gather.result) cands ∙ c.gather.ensures.list ∙ (λ i. gathered v (measured i ++ all_near points (point points v) (c.at-row.ensures.row i))) in
     subst (IsGathered points v (row_in rows v ++ sources_of rows v)) (sym is) (both_gathered points rows c.args.rows.now.width v c.requires.good c.requires.v)

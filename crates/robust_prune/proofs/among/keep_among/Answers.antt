@@ -1,5 +1,4 @@
-use Rattle.std.proofs.Common.{◌≡◌, ◌+◌, ◌<◌, ◌∙◌, ◌++◌, true, false, sym, subst, ap, take, set, length, get_or, rules, arith, refl}
-use Rattle.std.specs.Ordering.{is_lt}
+use Rattle.std.proofs.Common.{◌≡◌, ◌+◌, ◌<◌, ◌∙◌, ◌++◌, true, false, sym, take, length, get_or, rules, arith, refl}
 use Rattle.std.specs.Prelude.{nat_le}
 use Rattle.std.proofs.lemmas.Bool.{leb-true, leb-false}
 use Rattle.std.proofs.lemmas.Grind.{common_steps, drop_more_same}
@@ -8,10 +7,9 @@ use Rattle.std.proofs.lemmas.List.Elements.{All-push, All-set}
 use Rattle.ann_defs.specs.declared.near.Near.{Near}
 use Rattle.ann_defs.specs.Nearness.{near_cmp, ids_of}
 use Rattle.ann_defs.specs.RobustPrune.{stays, kept}
-use Rattle.ann_defs.specs.Ordered.{Has, ordered}
+use Rattle.ann_defs.specs.Ordered.{ordered}
 use Rattle.robust_prune.proofs.Keeping.{passes}
-use Rattle.robust_prune.proofs.Laws.{get_has}
-use Rattle.robust_prune.proofs.TwoLists.{IsAmong, among_none, settled_no, settled_yes, other_no, other_yes, still_there, among_full, among_all, is_less, not_less}
+use Rattle.robust_prune.proofs.TwoLists.{among_none, settled_no, settled_yes, other_no, other_yes, among_full, among_all}
 use Rattle.robust_prune.proofs.among.keep_among.Goals as goal
 
 abbrev none : Near
@@ -29,17 +27,12 @@ pub loop-i-preserved-then-stays_beside_those : goal.loop-i-preserved-then-stays_
 loop-i-preserved-then-stays_beside_those c =
     let l = c.loop-i in
     let beside = stays c.args.points.now.vectors c.args.alpha.num c.args.alpha.den in
-    let settled = c.args.settled.now in
-    let others = c.args.others.now in
-    let k = l.invariant.among in
-    let x = get_or settled l.i none in
-    let at : l.i < length settled = c.is_settled_next.ensures.settled c.if-is_settled_next.true in
+    let x = get_or c.args.settled.now l.i none in
+    let at : l.i < length c.args.settled.now = c.is_settled_next.ensures.settled c.if-is_settled_next.true in
     let answer : c.stays_beside_those.result ≡ passes beside (ids_of (take l.fresh l.others)) x = grind (arith, common_steps) in
     let fits : l.len < length l.out = omega arith in
     record {
-      among = settled_yes beside c.args.degree settled others l.others l.out l.i l.j l.fresh l.len none c.requires.settled_rise c.requires.others_rise c.requires.spread k at
-          (λ h. is_less _ (subst (λ (y : Near). is_lt (near_cmp x y) ≡ true) (still_there beside c.args.degree settled others l.others l.out l.i l.j l.fresh l.len none c.requires.settled_rise c.requires.others_rise c.requires.spread k h) (c.is_settled_next.ensures.before none c.if-is_settled_next.true (rw k.same h))))
-          (sym answer ∙ c.if-stays_beside_those.true) (omega arith) fits;
+      among = settled_yes beside c.args.degree c.args.settled.now c.args.others.now l.others l.out l.i l.j l.fresh l.len none c.requires.settled_rise c.requires.others_rise c.requires.spread c.requires.distinct l.invariant.among at (c.is_settled_next.ensures.before none c.if-is_settled_next.true) (sym answer ∙ c.if-stays_beside_those.true) (omega arith) fits;
       row = rw (take_more_set l.out l.len x.id fits) (All-push (λ c'. c' < length c.args.points.now.vectors) _ x.id l.invariant.row (c.requires.settled_ids l.i none at));
       ids = l.invariant.ids;
       rest = drop-set-lt (l.len + 1) l.out l.len x.id (omega arith) ∙ drop_more_same l.out c.args.out.now l.len l.invariant.rest;
@@ -49,16 +42,11 @@ pub loop-i-preserved-else-stays_beside_those : goal.loop-i-preserved-else-stays_
 loop-i-preserved-else-stays_beside_those c =
     let l = c.loop-i in
     let beside = stays c.args.points.now.vectors c.args.alpha.num c.args.alpha.den in
-    let settled = c.args.settled.now in
-    let others = c.args.others.now in
-    let k = l.invariant.among in
-    let x = get_or settled l.i none in
-    let at : l.i < length settled = c.is_settled_next.ensures.settled c.if-is_settled_next.true in
+    let x = get_or c.args.settled.now l.i none in
+    let at : l.i < length c.args.settled.now = c.is_settled_next.ensures.settled c.if-is_settled_next.true in
     let answer : c.stays_beside_those.result ≡ passes beside (ids_of (take l.fresh l.others)) x = grind (arith, common_steps) in
     record {
-      among = settled_no beside c.args.degree settled others l.others l.out l.i l.j l.fresh l.len none c.requires.settled_rise c.requires.others_rise c.requires.spread k at
-          (λ h. is_less _ (subst (λ (y : Near). is_lt (near_cmp x y) ≡ true) (still_there beside c.args.degree settled others l.others l.out l.i l.j l.fresh l.len none c.requires.settled_rise c.requires.others_rise c.requires.spread k h) (c.is_settled_next.ensures.before none c.if-is_settled_next.true (rw k.same h))))
-          (sym answer ∙ c.if-stays_beside_those.false);
+      among = settled_no beside c.args.degree c.args.settled.now c.args.others.now l.others l.out l.i l.j l.fresh l.len none c.requires.settled_rise c.requires.others_rise c.requires.spread c.requires.distinct l.invariant.among at (c.is_settled_next.ensures.before none c.if-is_settled_next.true) (sym answer ∙ c.if-stays_beside_those.false);
       row = l.invariant.row;
       ids = l.invariant.ids;
       rest = l.invariant.rest;
@@ -67,47 +55,28 @@ loop-i-preserved-else-stays_beside_those c =
 pub loop-i-preserved-then-stays_beside_all : goal.loop-i-preserved-then-stays_beside_all
 loop-i-preserved-then-stays_beside_all c =
     let l = c.loop-i in
-    let points = c.args.points.now.vectors in
-    let beside = stays points c.args.alpha.num c.args.alpha.den in
-    let settled = c.args.settled.now in
-    let others = c.args.others.now in
-    let k = l.invariant.among in
+    let beside = stays c.args.points.now.vectors c.args.alpha.num c.args.alpha.den in
     let y = get_or l.others l.j none in
     let far : l.j < length l.others = c.is_settled_next.ensures.other c.if-is_settled_next.false in
-    let at : l.j < length others = subst (λ m. l.j < m) k.same far in
-    let same : y ≡ get_or others l.j none = still_there beside c.args.degree settled others l.others l.out l.i l.j l.fresh l.len none c.requires.settled_rise c.requires.others_rise c.requires.spread k at in
     let answer : c.stays_beside_all.result ≡ passes beside (take l.len l.out) y = grind (arith, common_steps) in
     let fits : l.len < length l.out = omega arith in
-    let inside : y.id < length points = l.invariant.ids l.j none far in
+    let inside = l.invariant.ids l.j none far in
     record {
-      among = subst (λ (z : Near). IsAmong beside c.args.degree settled others (set l.others l.fresh z) (set l.out l.len z.id) l.i (l.j + 1) (l.fresh + 1) (l.len + 1)) (sym same)
-          (other_yes beside c.args.degree settled others l.others l.out l.i l.j l.fresh l.len none c.requires.settled_rise c.requires.others_rise c.requires.spread k at
-          (λ h. not_less (get_or settled l.i none) (get_or others l.j none) (subst (λ (z : Near). is_lt (near_cmp (get_or settled l.i none) z) ≡ false) same (c.is_settled_next.ensures.behind none c.if-is_settled_next.false h))
-          (λ e. c.requires.distinct (get_or settled l.i none) (get_has settled l.i none h) (subst (Has others) (sym e) (get_has others l.j none at))))
-          (ap (passes beside (take l.len l.out)) (sym same) ∙ sym answer ∙ c.if-stays_beside_all.true) (omega arith) fits);
-      row = rw (take_more_set l.out l.len y.id fits) (All-push (λ c'. c' < length points) _ y.id l.invariant.row inside);
-      ids = All-set (λ (x : Near). x.id < length points) l.others l.fresh y inside l.invariant.ids;
+      among = other_yes beside c.args.degree c.args.settled.now c.args.others.now l.others l.out l.i l.j l.fresh l.len none c.requires.settled_rise c.requires.others_rise c.requires.spread c.requires.distinct l.invariant.among far (c.is_settled_next.ensures.behind none c.if-is_settled_next.false) (sym answer ∙ c.if-stays_beside_all.true) (omega arith) fits;
+      row = rw (take_more_set l.out l.len y.id fits) (All-push (λ c'. c' < length c.args.points.now.vectors) _ y.id l.invariant.row inside);
+      ids = All-set (λ (x : Near). x.id < length c.args.points.now.vectors) l.others l.fresh y inside l.invariant.ids;
       rest = drop-set-lt (l.len + 1) l.out l.len y.id (omega arith) ∙ drop_more_same l.out c.args.out.now l.len l.invariant.rest;
     }
 
 pub loop-i-preserved : goal.loop-i-preserved
 loop-i-preserved c =
     let l = c.loop-i in
-    let points = c.args.points.now.vectors in
-    let beside = stays points c.args.alpha.num c.args.alpha.den in
-    let settled = c.args.settled.now in
-    let others = c.args.others.now in
-    let k = l.invariant.among in
+    let beside = stays c.args.points.now.vectors c.args.alpha.num c.args.alpha.den in
     let y = get_or l.others l.j none in
     let far : l.j < length l.others = c.is_settled_next.ensures.other c.if-is_settled_next.false in
-    let at : l.j < length others = subst (λ m. l.j < m) k.same far in
-    let same : y ≡ get_or others l.j none = still_there beside c.args.degree settled others l.others l.out l.i l.j l.fresh l.len none c.requires.settled_rise c.requires.others_rise c.requires.spread k at in
     let answer : c.stays_beside_all.result ≡ passes beside (take l.len l.out) y = grind (arith, common_steps) in
     record {
-      among = other_no beside c.args.degree settled others l.others l.out l.i l.j l.fresh l.len none c.requires.settled_rise c.requires.others_rise c.requires.spread k at
-          (λ h. not_less (get_or settled l.i none) (get_or others l.j none) (subst (λ (z : Near). is_lt (near_cmp (get_or settled l.i none) z) ≡ false) same (c.is_settled_next.ensures.behind none c.if-is_settled_next.false h))
-          (λ e. c.requires.distinct (get_or settled l.i none) (get_has settled l.i none h) (subst (Has others) (sym e) (get_has others l.j none at))))
-          (ap (passes beside (take l.len l.out)) (sym same) ∙ sym answer ∙ c.if-stays_beside_all.false);
+      among = other_no beside c.args.degree c.args.settled.now c.args.others.now l.others l.out l.i l.j l.fresh l.len none c.requires.settled_rise c.requires.others_rise c.requires.spread c.requires.distinct l.invariant.among far (c.is_settled_next.ensures.behind none c.if-is_settled_next.false) (sym answer ∙ c.if-stays_beside_all.false);
       row = l.invariant.row;
       ids = l.invariant.ids;
       rest = l.invariant.rest;
@@ -121,6 +90,6 @@ returns-after-loop-i-clause-kept c =
     let others = c.args.others.now in
     let k = l.invariant.among in
     elim (nat_le c.args.degree l.len) as (λ b. nat_le c.args.degree l.len ≡ b → take l.len l.out ≡ ids_of (kept beside c.args.degree (ordered near_cmp (settled ++ others)))) [
-      | true ↦ λ e. among_full beside c.args.degree settled others l.others l.out l.i l.j l.fresh l.len none c.requires.settled_rise c.requires.others_rise c.requires.spread k (leb-true c.args.degree l.len e)
-      | false ↦ λ e. let open_row = leb-false c.args.degree l.len e in among_all beside c.args.degree settled others l.others l.out l.i l.j l.fresh l.len none c.requires.settled_rise c.requires.others_rise c.requires.spread k (omega arith) (omega arith)
+      | true ↦ λ e. among_full beside c.args.degree settled others l.others l.out l.i l.j l.fresh l.len none c.requires.settled_rise c.requires.others_rise c.requires.spread c.requires.distinct k (leb-true c.args.degree l.len e)
+      | false ↦ λ e. let open_row = leb-false c.args.degree l.len e in among_all beside c.args.degree settled others l.others l.out l.i l.j l.fresh l.len none c.requires.settled_rise c.requires.others_rise c.requires.spread c.requires.distinct k (omega arith) (omega arith)
     ] refl

@@ -1,10 +1,11 @@
-use Rattle.std.proofs.Common.{◌∙◌, arith}
-use Rattle.ann_defs.specs.Nearness.{ids_of}
-use Rattle.robust_prune.proofs.Covering.{beyond_all}
+use Rattle.std.proofs.Common.{get_or, arith}
+use Rattle.std.proofs.lemmas.Grind.{common_steps}
+use Rattle.robust_prune.proofs.Covering.{beyond_one}
 use Rattle.robust_prune.proofs.among.stays_beside_those.Goals as goal
 
-pub returns : goal.returns
-returns c =
+pub loop-near-preserved : goal.loop-near-preserved
+loop-near-preserved c =
     let some = c.args.alpha.some in
     let above = c.args.alpha.ordered in
-    c.is_beyond_those.ensures ∙ beyond_all c.args.points.now.vectors c.args.alpha.num c.args.alpha.den c.most_covered.result c.args.candidate (omega (arith, some, above)) c.most_covered.ensures (ids_of c.args.nears.now)
+    let told = beyond_one c.args.points.now.vectors c.args.alpha.num c.args.alpha.den c.most_covered-most.result c.args.candidate ((get_or c.args.nears.now c.loop-near.near-index (record { dist = 0; id = 0 })).id) (omega (arith, some, above)) c.most_covered-most.ensures in
+    grind (arith, common_steps)

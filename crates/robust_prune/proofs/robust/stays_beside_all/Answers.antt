@@ -1,9 +1,11 @@
-use Rattle.std.proofs.Common.{◌∙◌, arith}
-use Rattle.robust_prune.proofs.Covering.{beyond_all}
+use Rattle.std.proofs.Common.{get_or, arith}
+use Rattle.std.proofs.lemmas.Grind.{common_steps}
+use Rattle.robust_prune.proofs.Covering.{beyond_one}
 use Rattle.robust_prune.proofs.robust.stays_beside_all.Goals as goal
 
-pub returns : goal.returns
-returns c =
+pub loop-neighbour-preserved : goal.loop-neighbour-preserved
+loop-neighbour-preserved c =
     let some = c.args.alpha.some in
     let above = c.args.alpha.ordered in
-    c.is_beyond_all.ensures ∙ beyond_all c.args.points.now.vectors c.args.alpha.num c.args.alpha.den c.most_covered.result c.args.candidate (omega (arith, some, above)) c.most_covered.ensures c.args.row.now
+    let told = beyond_one c.args.points.now.vectors c.args.alpha.num c.args.alpha.den c.most_covered-most.result c.args.candidate (get_or c.args.row.now c.loop-neighbour.neighbour-index 0) (omega (arith, some, above)) c.most_covered-most.ensures in
+    grind (arith, common_steps)

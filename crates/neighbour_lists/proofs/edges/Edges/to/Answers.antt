@@ -1,10 +1,8 @@
-use Rattle.std.proofs.Common.{◌∙◌, ◌≤◌, ◌-◌, ◌+◌, ◌<◌, sym, ap, subst, arith, length, take, drop, List}
+use Rattle.std.proofs.Common.{◌∙◌, ◌≤◌, ◌-◌, sym, ap, subst, arith, length, take, drop, List}
 use Rattle.std.specs.Prelude.{◌==◌}
 use Rattle.std.specs.List.{filter}
-use Rattle.std.proofs.lemmas.List.{get_or_read}
 use Rattle.neighbour_lists.specs.declared.edge.Edge.{Edge}
-use Rattle.neighbour_lists.specs.Edges.{IsStart}
-use Rattle.neighbour_lists.proofs.EdgeOrder.{none_behind, starts_rise, between_starts}
+use Rattle.neighbour_lists.proofs.EdgeOrder.{none_behind, starts_rise, starts_of_target, between_starts}
 use Rattle.neighbour_lists.proofs.edges.Edges.to.Goals as goal
 
 pub returns-then-at-len : goal.returns-then-at-len
@@ -17,28 +15,23 @@ between-requires-clause-from c =
     let v = c.self.inside in
     let t = c.args.target in
     let none : Edge = record { target = 0; source = record { dist = 0; id = 0 } } in
-    let within : t + 1 < length v.starts.items = omega arith in
-    let first = subst (IsStart v.edges.items t) (sym (get_or_read v.starts.items t c.index.result.now (omega arith) c.index.ensures 0)) (c.self.invariant.starts_at t (omega arith)) in
-    let last = subst (IsStart v.edges.items (t + 1)) (sym (get_or_read v.starts.items (t + 1) c.index-2.result.now within c.index-2.ensures 0)) (c.self.invariant.starts_at (t + 1) within) in
-    starts_rise v.edges.items t c.index.result.now c.index-2.result.now first last none
+    let starts = starts_of_target v.edges.items v.starts.items t c.index.result.now c.index-2.result.now c.self.invariant (omega arith) c.index.ensures c.index-2.ensures in
+    starts_rise v.edges.items t c.index.result.now c.index-2.result.now starts.0 starts.1 none
 
 pub between-requires-clause-end : goal.between-requires-clause-end
 between-requires-clause-end c =
     let v = c.self.inside in
     let t = c.args.target in
-    let within : t + 1 < length v.starts.items = omega arith in
-    let last = subst (IsStart v.edges.items (t + 1)) (sym (get_or_read v.starts.items (t + 1) c.index-2.result.now within c.index-2.ensures 0)) (c.self.invariant.starts_at (t + 1) within) in
-    subst (λ (es : List Edge). c.index-2.result.now ≤ length es) (sym c.as_slice.ensures.value) last.bound
+    let starts = starts_of_target v.edges.items v.starts.items t c.index.result.now c.index-2.result.now c.self.invariant (omega arith) c.index.ensures c.index-2.ensures in
+    subst (λ (es : List Edge). c.index-2.result.now ≤ length es) (sym c.as_slice.ensures.value) starts.1.bound
 
 pub returns : goal.returns
 returns c =
     let v = c.self.inside in
     let t = c.args.target in
     let none : Edge = record { target = 0; source = record { dist = 0; id = 0 } } in
-    let within : t + 1 < length v.starts.items = omega arith in
-    let first = subst (IsStart v.edges.items t) (sym (get_or_read v.starts.items t c.index.result.now (omega arith) c.index.ensures 0)) (c.self.invariant.starts_at t (omega arith)) in
-    let last = subst (IsStart v.edges.items (t + 1)) (sym (get_or_read v.starts.items (t + 1) c.index-2.result.now within c.index-2.ensures 0)) (c.self.invariant.starts_at (t + 1) within) in
+    let starts = starts_of_target v.edges.items v.starts.items t c.index.result.now c.index-2.result.now c.self.invariant (omega arith) c.index.ensures c.index-2.ensures in
     c.between.ensures
     ∙ ap (λ (es : List Edge). take (c.index-2.result.now - c.index.result.now) (drop c.index.result.now es)) c.as_slice.ensures.value
-    ∙ between_starts v.edges.items t c.index.result.now c.index-2.result.now first last none
+    ∙ between_starts v.edges.items t c.index.result.now c.index-2.result.now starts.0 starts.1 none
     ∙ ap (filter (λ (e : Edge). e.target == t)) c.self.view_is
