@@ -106,10 +106,12 @@ fn builds_line<R: Threads + Sync, P: Rounds>(
 {
     let index = build_nnd(rt, alloc, points, SETTINGS, pool, &FreeGate)?;
     let sizes = (index.count, index.dim, index.degree, index.start);
-    Ok(matches!(index.kind, Kind::Nnd)
-        && index.upper.is_empty()
-        && sizes == (4, 1, 2, 0)
-        && has_rows(&index.base, &ROWS))
+    Ok(
+        matches!(index.kind, Kind::Nnd)
+            && index.upper.is_empty()
+            && sizes == (4, 1, 2, 0)
+            && has_rows(&index.base, &ROWS),
+    )
 }
 
 // Whether both are so over a pool.

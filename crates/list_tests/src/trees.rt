@@ -3,7 +3,6 @@ use ann_shelf::{FreeGate, NoMemory};
 use bin_files::Points;
 use pivot_trees::Tree;
 use std::alloc::Global;
-use std::process::Abort;
 use std::test::Fail;
 use std::thread::Threads;
 use steal_pool::{RayonRounds, Rounds, SerialRounds, StealRounds};
@@ -23,8 +22,8 @@ fn five(alloc: Global) -> Result<Points, NoMemory> {
 // No pivots part equal points: the first half goes left, then the first half of that.
 const LEAVES_OF_FIVE: [&[u32]; 5] = [&[0, 1], &[0, 1], &[2], &[3, 4], &[3, 4]];
 
-// Asserts that a tree with leaves of at most two ids has these leaves, each by its ids.
-fn assert_leaves<R: Threads + Sync + Abort, P: Rounds>(
+// Whether a tree with leaves of at most two ids has these leaves, each by its ids.
+fn has_leaves<R: Threads + Sync, P: Rounds>(
     rt: &R,
     alloc: Global,
     points: &Points,
@@ -32,27 +31,38 @@ fn assert_leaves<R: Threads + Sync + Abort, P: Rounds>(
     seed: u64,
     pool: &mut P,
     leaves: &[&[u32]],
-) -> Result<(), NoMemory> {
+) -> Result<bool, NoMemory> {
     let tree = Tree::grow(rt, alloc, points, tree, seed, 2, pool, &FreeGate)?;
-    for id in 0..tree.count() {
-        let leaf = leaves.get(id as usize).copied().unwrap_or(&[]);
-        assert_eq!(rt; tree.leaf_of(id), leaf, "leaf of {id}");
+    if tree.count() as usize != leaves.len() {
+        return Ok(false);
     }
-    Ok(())
+    for (id, leaf) in leaves.iter().enumerate() {
+        if tree.leaf_of(id as u32) != *leaf {
+            return Ok(false);
+        }
+    }
+    Ok(true)
 }
 
 #[test]
 fn each_pool_gives_the_leaves_of_small_trees(rt: HostRuntime) -> Result<(), Fail> {
     let alloc = rt.alloc();
     let seven = seven(alloc)?;
+    let mut serial = SerialRounds::new();
+    assert!(rt; has_leaves(&rt, alloc, &seven, 0, 0, &mut serial, &LEAVES_OF_SEVEN)?);
+    assert!(rt; has_leaves(&rt, alloc, &seven, 1, 7, &mut serial, &LEAVES_OF_SEVEN)?);
+    let mut shares = RayonRounds::new(2);
+    assert!(rt; has_leaves(&rt, alloc, &seven, 0, 0, &mut shares, &LEAVES_OF_SEVEN)?);
+    let mut steal = StealRounds::new(3);
+    assert!(rt; has_leaves(&rt, alloc, &seven, 1, 7, &mut steal, &LEAVES_OF_SEVEN)?);
+    Ok(())
+}
+
+#[test]
+fn equal_points_are_parted_by_halves(rt: HostRuntime) -> Result<(), Fail> {
+    let alloc = rt.alloc();
     let five = five(alloc)?;
     let mut serial = SerialRounds::new();
-    assert_leaves(&rt, alloc, &seven, 0, 0, &mut serial, &LEAVES_OF_SEVEN)?;
-    assert_leaves(&rt, alloc, &seven, 1, 7, &mut serial, &LEAVES_OF_SEVEN)?;
-    assert_leaves(&rt, alloc, &five, 0, 0, &mut serial, &LEAVES_OF_FIVE)?;
-    let mut shares = RayonRounds::new(2);
-    assert_leaves(&rt, alloc, &seven, 0, 0, &mut shares, &LEAVES_OF_SEVEN)?;
-    let mut steal = StealRounds::new(3);
-    assert_leaves(&rt, alloc, &seven, 1, 7, &mut steal, &LEAVES_OF_SEVEN)?;
+    assert!(rt; has_leaves(&rt, alloc, &five, 0, 0, &mut serial, &LEAVES_OF_FIVE)?);
     Ok(())
 }
