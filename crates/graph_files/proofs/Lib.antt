@@ -1,5 +1,6 @@
 pub mod BodyFacts
 pub mod BodyLaws
+pub mod CleanRow
 pub mod Grown
 pub mod HeaderLaws
 mod HostileFiles

@@ -1,5 +1,5 @@
 -- The words that a window shows.
-use Rattle.std.proofs.Common.{◌≡◌, ℕ, ◌+◌, ◌-◌, ◌<◌, ◌≤◌, List, length, drop, get_or, refl, sym, ap, subst, ◌∙◌, arith, inl, inr, Ok}
+use Rattle.std.proofs.Common.{◌≡◌, ℕ, ◌+◌, ◌-◌, ◌<◌, ◌≤◌, List, length, take, drop, get_or, refl, sym, ap, subst, ◌∙◌, arith, inl, inr, Ok}
 use Rattle.std.proofs.lemmas.Bool.{cases_lt}
 use Rattle.std.proofs.lemmas.List.{get_or-take, get_or-drop, length-drop}
 use Rattle.std.proofs.lemmas.Bool.Decides.{nat_tests}
@@ -47,3 +47,23 @@ bytes_more file from mid to next first second is = subst (AreBytesIn file from) 
 pub shown_all : (file : List ℕ) (w : Window) (to : ℕ) → Shows file w → w.from ≡ 0 → to ≤ w.len → ((j : ℕ) → get_or w.bytes j 0 < 256) → AreBytesIn file 0 to
 shown_all file w to shows front fits are j from below =
     subst (λ n. n < 256) (shown_byte file w j j shows (omega arith) (omega arith)) (are j)
+
+-- a part of what a window shows
+module _ (file : List ℕ) (w : Window) (i n at : ℕ) (shows : Shows file w) (fits : i + n ≤ w.len) (is : at ≡ w.from + i) where
+  part_byte : (j place : ℕ) → j < n → place ≡ at + j → get_or (take (i + n - i) (drop i w.bytes)) j 0 ≡ get_or file place 0
+  part_byte j place lt place_is =
+      let below : j < i + n - i = omega arith in
+      get_or-take (i + n - i) (drop i w.bytes) j 0 below ∙ get_or-drop i w.bytes j 0 ∙ shown_byte file w (i + j) place shows (omega arith) (omega arith)
+
+  pub part_word : (j place m : ℕ) → j + 4 ≤ n → place ≡ at + j → m ≡ u32_at (take (i + n - i) (drop i w.bytes)) j → word_at file place ≡ Ok m
+  part_word j place m lt place_is m_is =
+      let same : u32_at (take (i + n - i) (drop i w.bytes)) j ≡ u32_at file place = rw (
+        part_byte j place (omega arith) (omega arith),
+        part_byte (j + 1) (place + 1) (omega arith) (omega arith),
+        part_byte (j + 2) (place + 2) (omega arith) (omega arith),
+        part_byte (j + 3) (place + 3) (omega arith) (omega arith),
+      ) refl in
+      whole_word file place (omega (arith, shows.within, length-drop w.from file, length-drop place file)) ∙ ap (λ k. Ok k) (sym (m_is ∙ same))
+
+  pub part_bytes : (j place : ℕ) → j + 4 ≤ n → place ≡ at + j → ((k : ℕ) → get_or (take (i + n - i) (drop i w.bytes)) k 0 < 256) → AreBytesIn file place (place + 4)
+  part_bytes j place lt place_is are k low high = subst (λ b. b < 256) (part_byte (k - at) k (omega arith) (omega arith)) (are (k - at))

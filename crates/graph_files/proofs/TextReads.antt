@@ -48,10 +48,10 @@ word_here file at n rest small e =
     let value : u32_at file at ≡ n = ap (from_le_bytes w32) bytes ∙ from_le_bytes-to_le_bytes_4 n small in
     ap (λ b. cond b (Err (Malformed (at + length (drop at file)) Short)) (Ok (u32_at file at))) (le-ltb (length (drop at file)) 4 long) ∙ ap (λ k. Ok k) value
 
-id_sound : (held : ℕ → Bool) (own at : ℕ) (ids : List ℕ) (id : ℕ) → held id ≡ true → eqb id own ≡ false → has ids id ≡ false → id_fault held own at ids id ≡ None
+pub id_sound : (held : ℕ → Bool) (own at : ℕ) (ids : List ℕ) (id : ℕ) → held id ≡ true → eqb id own ≡ false → has ids id ≡ false → id_fault held own at ids id ≡ None
 id_sound held own at ids id h o d = rw (h, o, d) refl
 
-not_among : (ids : List ℕ) (id : ℕ) → (Has ids id → ⊥) → has ids id ≡ false
+pub not_among : (ids : List ℕ) (id : ℕ) → (Has ids id → ⊥) → has ids id ≡ false
 not_among ids id n = decide (has ids id) (λ e. n (has_true ids id e))
   where
     decide : (b : Bool) → (b ≡ true → ⊥) → b ≡ false

@@ -15,6 +15,7 @@ mod read_layers;
 mod read_rows;
 mod read_stamp;
 mod row_room;
+mod shown_row;
 mod window;
 mod words;
 mod write;

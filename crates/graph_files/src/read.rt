@@ -120,7 +120,9 @@ fn read_body<F: Shelf>(
 /// The rules of the format are checked in its order, and the call fails with the first that is broken and its byte place.
 /// The memory of a layer is taken once, after its count was checked and only if the file is long enough to hold a word of
 /// each row; of a shorter file the rows are read and not kept. The file is read through a window of 16 KiB on the
-/// stack, so rows cost no call each. An id that stands twice in a row is found by a scan of the row so far.
+/// stack, so rows cost no call each. The ids of a row that the window shows whole are tested many at once. To find an id
+/// that stands twice in a row, each is marked by its remainder in another 16 KiB on the stack, and only where the row has
+/// set that mark already the id is compared with those before it.
 pub fn read_index<F: Shelf>(alloc: Global, shelf: &mut F, name: &str) -> Result<Index, IndexFault>
     // Where the file's bytes are told, the result is what they hold or their first fault; a failed read or want of memory may stand in its place.
     ensures index { IfSome (F.shown shelf.old).held (λ files. Gives contents result (index_in (bytes_of files name.now))) }

@@ -9,6 +9,7 @@ ghost use Rattle.graph_files.specs.Reading.{AreBytesIn, Gives, Shows};
 ghost use Rattle.graph_rows.specs.WellFormed.{IsRowIn};
 
 use crate::row_room::see_room;
+use crate::shown_row::read_shown;
 use crate::window::Window;
 use crate::{FlatGraph, IndexFault, IndexRule};
 use ann_defs::{MAX_DEGREE, MAX_POINTS, MAX_WORDS};
@@ -87,7 +88,7 @@ fn read_ids<F: Shelf>(
     Ok(())
 }
 
-/// A row: its length, and then its ids.
+/// A row: its length, and then its ids. The marks are of any earlier rows.
 pub(crate) fn read_row<F: Shelf>(
     shelf: &mut F,
     name: &str,
@@ -97,6 +98,7 @@ pub(crate) fn read_row<F: Shelf>(
     own: u32,
     at: u64,
     ids: &mut [u32],
+    marks: &mut [u32; 4096],
 ) -> Result<usize, IndexFault>
     requires place { at + 65536 < 2 ^ 64 }
     requires bound { bound ≤ MAX_DEGREE }
@@ -116,6 +118,9 @@ pub(crate) fn read_row<F: Shelf>(
             place: at,
             rule: IndexRule::Degree,
         });
+    }
+    if read_shown(window, members, own, at + 4, len as usize, ids, marks) {
+        return Ok(len as usize);
     }
     read_ids(shelf, name, window, members, own, at + 4, len as usize, ids)?;
     Ok(len as usize)
@@ -147,10 +152,13 @@ pub(crate) fn read_rows<F: Shelf>(
     ensures only_reads { OnlyReads (F.shown shelf.old) (F.shown shelf.new) name.now (IsErrOf result IndexFault.Read) }
 {
     let mut row = [0u32; MAX_DEGREE as usize];
+    let mut marks = [0u32; 4096];
     let mut place = at;
     for i in 0..graph.count() {
         let own = members.at(i);
-        let len = read_row(shelf, name, window, members, bound, own, place, &mut row)?;
+        let len = read_row(
+            shelf, name, window, members, bound, own, place, &mut row, &mut marks,
+        )?;
         graph.set_row(i, &row[..len]);
         place += 4 + 4 * len as u64;
     }

@@ -57,10 +57,13 @@ pub(crate) fn see_room<F: Shelf>(
         return Ok(());
     }
     let mut row = [0u32; MAX_DEGREE as usize];
+    let mut marks = [0u32; 4096];
     let mut place = at;
     for i in 0..members.count() {
         let own = members.at(i);
-        let len = read_row(shelf, name, window, members, bound, own, place, &mut row)?;
+        let len = read_row(
+            shelf, name, window, members, bound, own, place, &mut row, &mut marks,
+        )?;
         place += 4 + 4 * len as u64;
     }
     Ok(())

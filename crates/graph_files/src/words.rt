@@ -1,5 +1,5 @@
 //! Words of a file by their places, through a window on it.
-ghost use Rattle.std.specs.Prelude.{◌≡◌, ◌⊎◌, ◌+◌, ◌<◌, ◌≤◌, ◌^◌, List, ℕ, length, IfOk, IfErr, IfSome, IsErrOf, drop};
+ghost use Rattle.std.specs.Prelude.{◌≡◌, ◌⊎◌, ◌+◌, ◌*◌, ◌<◌, ◌≤◌, ◌^◌, List, ℕ, true, length, slice_index, Ok, IfOk, IfErr, IfSome, IsErrOf, drop};
 ghost use Rattle.ann_shelf.specs.Files.{bytes_of};
 ghost use Rattle.ann_shelf.specs.Shown.{OnlyReads};
 ghost use Rattle.graph_files.specs.Grammar.{word_at};
@@ -67,5 +67,25 @@ impl Window {
             });
         }
         Ok(u32_le(&self.bytes, 0))
+    }
+
+    /// Whether the window shows as many words from a place on as there are cells. Then they are in the cells.
+    pub(crate) fn words(&self, at: u64, cells: &mut [u32]) -> bool
+        requires { at + 4 * length cells.old < 2 ^ 64 }
+        ensures words { result ≡ true → (file : List ℕ) → Shows file self.now → (k : ℕ) → k < length cells.new → word_at file (at + 4 * k) ≡ Ok (slice_index cells.new k) }
+        ensures bytes { result ≡ true → (file : List ℕ) → Shows file self.now → AreBytesIn file at (at + 4 * length cells.new) }
+    {
+        if at < self.from {
+            return false;
+        }
+        if self.from + (self.len as u64) < at + 4 * cells.len() as u64 {
+            return false;
+        }
+        let from = (at - self.from) as usize;
+        let part = &self.bytes[from..from + 4 * cells.len()];
+        for i in 0..cells.len() {
+            cells[i] = u32_le(part, 4 * i);
+        }
+        true
     }
 }

@@ -10,4 +10,6 @@ mod indexes;
 #[cfg(test)]
 mod layers;
 #[cfg(test)]
+mod rows;
+#[cfg(test)]
 mod stamps;

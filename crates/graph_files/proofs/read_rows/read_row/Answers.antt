@@ -1,4 +1,4 @@
-use Rattle.std.proofs.Common.{◌+◌, ◌∙◌, [], arith, sym}
+use Rattle.std.proofs.Common.{◌+◌, ◌∙◌, [], arith, refl, sym}
 use Rattle.ann_shelf.specs.Files.{bytes_of}
 use Rattle.bin_files.proofs.Pieces.{told_then, both_told}
 use Rattle.graph_files.specs.Grammar.{ids_at, row_at}
@@ -24,3 +24,7 @@ returns-in_err-read_ids-clause-row g c = both_told (g.F.Shelf.shown c.args.shelf
     gives_err _ c.from_residual-in_err-read_ids.result c.in_err-read_ids.field-0.0 _ c.from_residual-in_err-read_ids.ensures.1 (fails_along c.in_err-read_ids.field-0.0 (ids_at (holds c.args.members) c.args.own (bytes_of files c.args.name.now) c.in_ok-len.len (c.args.at + 4) [])
     (row_at (holds c.args.members) c.args.bound c.args.own (bytes_of files c.args.name.now) c.args.at)
     (sym (row_is (holds c.args.members) c.args.own (bytes_of files c.args.name.now) c.args.bound c.args.at c.in_ok-len.len word (omega arith))) ids))
+
+pub returns-then-read_shown-clause-row : goal.returns-then-read_shown-clause-row
+returns-then-read_shown-clause-row g c = both_told (g.F.Shelf.shown c.args.shelf.now).held (g.F.Shelf.shown c.args.shelf.now).held refl c.in_ok-len.ensures.word c.in_ok-len.ensures.shows (λ files word shows.
+    row_is (holds c.args.members) c.args.own (bytes_of files c.args.name.now) c.args.bound c.args.at c.in_ok-len.len word (omega arith) ∙ c.read_shown.ensures.ids c.if-read_shown.true (bytes_of files c.args.name.now) shows)
