@@ -1,10 +1,13 @@
 -- The builders' indexes are those that settings ask for.
-use Rattle.std.proofs.Common.{◌≡◌, ℕ, List, length, refl, sym, ap, ◌∙◌}
+use Rattle.std.proofs.Common.{◌≡◌, ℕ, List, length, refl, sym, ap, ◌∙◌, Result, IfOk}
+use Rattle.std.proofs.lemmas.Result.{IfOk-weaker}
 use Rattle.ann_defs.specs.Distance.{PointSet}
 use Rattle.ann_defs.specs.declared.kinds.Kind.{Kind}
 use Rattle.ann_defs.specs.declared.kinds.Kind.TheVariants.{Vamana, Hnsw, Nnd}
 use Rattle.graph_rows.specs.Index.{Contents}
-use Rattle.graph_rows.specs.View.{kind_code}
+use Rattle.graph_rows.specs.View.{contents, kind_code}
+use Rattle.graph_rows.specs.declared.index.Index.{Index}
+use Rattle.annbuild_lines.specs.declared.fault.Fault.{Fault}
 use Rattle.vamana_build.specs.declared.settings.VamanaSettings.{VamanaSettings}
 use Rattle.vamana_build.specs.Builds.{order_of}
 use Rattle.vamana_build.specs.VamanaIndex.{vamana_index}
@@ -65,5 +68,10 @@ code_is Vamana X o = vamana_code X o
 code_is Hnsw X o = hnsw_code X o
 code_is Nnd X o = nnd_code X o
 
-pub kind_is : (i : Contents) (k : Kind) (X : List (List ℕ)) (o : Settings) → i ≡ index_by k X o → o.kind ≡ k → i.kind ≡ kind_code o.kind
-kind_is i k X o e is = ap (λ (j : Contents). j.kind) e ∙ code_is k X o ∙ ap kind_code (sym is)
+-- what the builder of a kind gives, where settings ask for that kind: their index but for its stamp, with their kind's code
+module _ (r : Result Index Fault) (X : PointSet) (o : Settings) (k : Kind) (is : o.kind ≡ k) (built : IfOk r (λ i. contents i ≡ index_by k X.vectors o)) where
+  pub built_is : IfOk r (λ i. contents i ≡ index_by o.kind X.vectors o)
+  built_is = IfOk-weaker r (λ i. contents i ≡ index_by k X.vectors o) (λ i. contents i ≡ index_by o.kind X.vectors o) (λ i e. e ∙ index_is X o k is) built
+
+  pub built_kind : IfOk r (λ i. kind_code i.kind ≡ kind_code o.kind)
+  built_kind = IfOk-weaker r (λ i. contents i ≡ index_by k X.vectors o) (λ i. kind_code i.kind ≡ kind_code o.kind) (λ i e. ap (λ (j : Contents). j.kind) e ∙ code_is k X.vectors o ∙ ap kind_code (sym is)) built

@@ -14,7 +14,8 @@ use Rattle.ann_defs.specs.declared.kinds.StartKind.{StartKind}
 use Rattle.ann_defs.specs.declared.kinds.StartKind.TheVariants.{First, Medoid}
 use Rattle.ann_defs.specs.declared.limits.TheConstants.{MAX_POINTS}
 use Rattle.graph_rows.specs.declared.stamp.Stamp.{Stamp}
-use Rattle.graph_rows.specs.Stamps.{is_within, are_within, IsStamp}
+use Rattle.graph_rows.specs.Index.{stamp_numbers}
+use Rattle.graph_rows.specs.Stamps.{is_within, are_within, is_floor, stamp_ranges, IsStamp}
 use Rattle.graph_rows.specs.View.{kind_code}
 use Rattle.command_options.specs.declared.settings.Settings.{Settings}
 use Rattle.index_build.specs.IndexOf.{AreForBuild}
@@ -58,47 +59,33 @@ pub record Fits (s : Stamp) : Type 0 where
   pub long : length s.digest ≡ 32
   pub bytes : (i : ℕ) → get_or s.digest i 0 < 256
 
+-- a stamp whose words are in their ranges
+kept : (code : ℕ) (s : Stamp) → are_within (stamp_ranges code s.num) (stamp_numbers s) ≡ true → is_floor code s.floor ≡ true → Fits s → IsStamp code s
+kept code s words floor fits = record { words = words; floor = floor; seed_fits = fits.seed; floor_fits = fits.floor; digest = fits.long; bytes = all_below _ fits.bytes }
+
 allowed_by : (k : Kind) (X : PointSet) (o : Settings) → AreForBuild o → length X.vectors ≤ MAX_POINTS → Fits (stamp_by k X o) → IsStamp (kind_code k) (stamp_by k X o)
-allowed_by Vamana X o a few fits =
+allowed_by Vamana X o a few =
     let e = element_within X.element in
     let r = order_within o.order in
     let t = start_within o.start in
     let c = cap_within (length X.vectors) o.cap few a.cap in
-    record {
-      words = field 1 2 (element_code X.element) _ e.0 e.1 (field 1 2 (order_code o.order) _ r.0 r.1 (field 1 2 (start_code o.start) _ t.0 t.1
-          (field 1 1024 o.beam _ a.some_beam a.beam (field 1 1000 o.num _ (omega arith) a.num (field 1 o.num o.den _ a.some_den a.ordered
-          (field 1 MAX_POINTS (used_cap X o) _ c.0 c.1 (field 1 2 o.passes _ a.some_pass a.passes refl)))))));
-      floor = refl;
-      seed_fits = fits.seed;
-      floor_fits = fits.floor;
-      digest = fits.long;
-      bytes = all_below _ fits.bytes;
-    }
-allowed_by Hnsw X o a few fits =
+    kept (kind_code Vamana) (stamp_by Vamana X o)
+    (field 1 2 (element_code X.element) _ e.0 e.1 (field 1 2 (order_code o.order) _ r.0 r.1 (field 1 2 (start_code o.start) _ t.0 t.1
+    (field 1 1024 o.beam _ a.some_beam a.beam (field 1 1000 o.num _ (omega arith) a.num (field 1 o.num o.den _ a.some_den a.ordered
+    (field 1 MAX_POINTS (used_cap X o) _ c.0 c.1 (field 1 2 o.passes _ a.some_pass a.passes refl)))))))) refl
+allowed_by Hnsw X o a few =
     let e = element_within X.element in
     let r = order_within o.order in
     let c = cap_within (length X.vectors) o.cap few a.cap in
-    record {
-      words = field 1 2 (element_code X.element) _ e.0 e.1 (field 1 2 (order_code o.order) _ r.0 r.1 (field 1 1024 o.beam _ a.some_beam a.beam
-          (field 1 MAX_POINTS (used_cap X o) _ c.0 c.1 (field 1 8 o.bits _ a.some_bit a.bits (field 0 15 o.max_level _ (omega arith) a.max_level refl)))));
-      floor = refl;
-      seed_fits = fits.seed;
-      floor_fits = fits.floor;
-      digest = fits.long;
-      bytes = all_below _ fits.bytes;
-    }
-allowed_by Nnd X o a few fits =
+    kept (kind_code Hnsw) (stamp_by Hnsw X o)
+    (field 1 2 (element_code X.element) _ e.0 e.1 (field 1 2 (order_code o.order) _ r.0 r.1 (field 1 1024 o.beam _ a.some_beam a.beam
+    (field 1 MAX_POINTS (used_cap X o) _ c.0 c.1 (field 1 8 o.bits _ a.some_bit a.bits (field 0 15 o.max_level _ (omega arith) a.max_level refl)))))) refl
+allowed_by Nnd X o a few =
     let e = element_within X.element in
     let t = start_within o.start in
-    record {
-      words = field 1 2 (element_code X.element) _ e.0 e.1 (field 1 2 (start_code o.start) _ t.0 t.1 (field 1 1000 o.num _ (omega arith) a.num (field 1 o.num o.den _ a.some_den a.ordered
-          (field 1 128 o.list _ a.some_entry a.list (field 1 64 o.trees _ a.some_tree a.trees (field 2 1024 o.leaf _ a.two_in_a_leaf a.leaf (field 0 64 o.rounds _ (omega arith) a.rounds refl)))))));
-      floor = refl;
-      seed_fits = fits.seed;
-      floor_fits = fits.floor;
-      digest = fits.long;
-      bytes = all_below _ fits.bytes;
-    }
+    kept (kind_code Nnd) (stamp_by Nnd X o)
+    (field 1 2 (element_code X.element) _ e.0 e.1 (field 1 2 (start_code o.start) _ t.0 t.1 (field 1 1000 o.num _ (omega arith) a.num (field 1 o.num o.den _ a.some_den a.ordered
+    (field 1 128 o.list _ a.some_entry a.list (field 1 64 o.trees _ a.some_tree a.trees (field 2 1024 o.leaf _ a.two_in_a_leaf a.leaf (field 0 64 o.rounds _ (omega arith) a.rounds refl)))))))) refl
 
 -- the stamp of a build is one that its index may have
 pub allowed : (X : PointSet) (o : Settings) → AreForBuild o → length X.vectors ≤ MAX_POINTS → Fits (stamp_of X o) → IsStamp (kind_code o.kind) (stamp_of X o)

@@ -2,7 +2,7 @@
 use Rattle.std.proofs.Common.{◌≡◌, ◌∙◌, ℕ, ◌/◌, ◌%◌, ◌<◌, ◌≤◌, List, [], length, map, get_or, sym, ap, subst, arith}
 use Rattle.std.proofs.Math.Nat.{mod-lt}
 use Rattle.std.proofs.lemmas.List.{get_or-map, length-map}
-use Rattle.std.proofs.lemmas.List.FromFn.{get_or-map-range_with_len}
+use Rattle.std.proofs.lemmas.List.FromFn.{get_or-map-range_with_len, length-map-range_with_len}
 use Rattle.ann_defs.specs.declared.near.Near.{Near}
 use Rattle.live_session.specs.Rows.{Row}
 use Rattle.live_session.specs.SideBySide.{AreFull, item_of, side_by_side}
@@ -31,3 +31,17 @@ module _ (rows : List Row) (count j callers : ℕ) (row : Row) (some : 1 ≤ len
       get_or-map-range_with_len (λ m. item_of lists m (0, [])) 0 count j j (0, []) lt (omega arith)
       ∙ ap (λ w. get_or (get_or lists (j % w) []) (j / w) (0, [])) width_is
       ∙ ap (λ (xs : List (ℕ × List Near)). get_or xs (j / callers) (0, [])) list_is
+
+  -- an item of a list that stands side by side is in its own list
+  module _ (answers : List (ℕ × List Near)) (is : side_by_side lists count (0, []) ≡ answers) (lt : j < length answers) where
+    within : j < count
+    within =
+        let size = length-map-range_with_len (λ m. item_of lists m (0, [])) 0 count in
+        let same = ap (λ (xs : List (ℕ × List Near)). length xs) is in
+        omega (arith, size, same, lt)
+
+    pub place_in : AreFull lists count → j / callers < length row.answers
+    place_in full = place_there full within
+
+    pub item_in : get_or row.answers (j / callers) (0, []) ≡ get_or answers j (0, [])
+    item_in = sym (item_there within) ∙ ap (λ (xs : List (ℕ × List Near)). get_or xs j (0, [])) is
