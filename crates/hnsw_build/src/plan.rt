@@ -2,7 +2,6 @@
 ghost use Rattle.std.specs.Prelude.{◌≡◌, ◌<◌, ◌≤◌, ◌==◌, ℕ, count_by, length, IfOk, IfSome};
 ghost use Rattle.ann_defs.specs.declared.limits.TheConstants.{MAX_BEAM, MAX_POINTS};
 ghost use Rattle.std.specs.List.{All};
-ghost use Rattle.ann_defs.specs.BatchInsert.{cap_of};
 ghost use Rattle.seeded_order.specs.Levels.{levels_of};
 ghost use Rattle.hnsw_build.specs.Layering.{words_in, top_of, entry_first};
 ghost use Rattle.hnsw_build.specs.HnswBuilds.{order_of, start_of, batch_cap};
@@ -13,7 +12,7 @@ use crate::settings::HnswSettings;
 use ann_defs::StartKind;
 use ann_shelf::NoMemory;
 use bin_files::Points;
-use prefix_batches::default_cap;
+use prefix_batches::cap_for;
 use seeded_order::{first_to_front, insertion_order_of, levels};
 use std::alloc::Global;
 
@@ -147,18 +146,4 @@ fn entry_to_front(order: &mut [u32], levels: &[u8])
 {
     let entry = entry_point(order, levels);
     first_to_front(order, entry);
-}
-
-// The greatest number of points in a batch.
-fn cap_for(n: u32, cap: Option<u32>) -> u32
-    requires points { n ≤ MAX_POINTS }
-    requires cap { IfSome cap (λ cap. (1 ≤ cap) × (cap ≤ MAX_POINTS)) }
-    ensures value { result ≡ cap_of n cap }
-    ensures some { 1 ≤ result }
-    ensures bound { result ≤ MAX_POINTS }
-{
-    match cap {
-        Some(cap) => cap,
-        None => default_cap(n),
-    }
 }

@@ -1,6 +1,6 @@
 //! The bounds of batches, one after another.
 ghost use Rattle.std.specs.Prelude.{◌≡◌, ◌+◌, ◌<◌, ◌≤◌, ℕ, max, IsSome, IsNone, IfSome, ◌↔◌};
-ghost use Rattle.ann_defs.specs.BatchInsert.{bound_at, total_of, default_cap};
+ghost use Rattle.ann_defs.specs.BatchInsert.{bound_at, total_of, default_cap, cap_of};
 
 use ann_defs::MAX_POINTS;
 use std::marker::Model;
@@ -120,4 +120,18 @@ pub fn default_cap(n: u32) -> u32
     ensures bound { result ≤ max 1 n }
 {
     n.div_ceil(50).max(1)
+}
+
+/// The greatest number of points in a batch: the cap that is set, or else the default one.
+pub fn cap_for(n: u32, cap: Option<u32>) -> u32
+    requires points { n ≤ MAX_POINTS }
+    requires cap { IfSome cap (λ cap. (1 ≤ cap) × (cap ≤ MAX_POINTS)) }
+    ensures value { result ≡ cap_of n cap }
+    ensures some { 1 ≤ result }
+    ensures bound { result ≤ MAX_POINTS }
+{
+    match cap {
+        Some(cap) => cap,
+        None => default_cap(n),
+    }
 }

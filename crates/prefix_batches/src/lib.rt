@@ -9,5 +9,5 @@
 mod batches;
 mod laws;
 
-pub use batches::{Batches, default_cap};
+pub use batches::{Batches, cap_for, default_cap};
 pub use laws::{bounds_end_at_total, bounds_rise, total_is_within};

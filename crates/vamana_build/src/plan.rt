@@ -2,13 +2,12 @@
 ghost use Rattle.std.specs.Prelude.{◌≡◌, ◌+◌, ◌*◌, ◌<◌, ◌≤◌, length, IfOk, IfSome};
 ghost use Rattle.ann_defs.specs.declared.limits.TheConstants.{MAX_BEAM, MAX_DEGREE, MAX_POINTS, MAX_WORDS};
 ghost use Rattle.std.specs.List.{All};
-ghost use Rattle.ann_defs.specs.BatchInsert.{cap_of};
 ghost use Rattle.vamana_build.specs.Builds.{order_of, start_of, batch_cap};
 
 use crate::settings::VamanaSettings;
 use ann_shelf::NoMemory;
 use bin_files::Points;
-use prefix_batches::default_cap;
+use prefix_batches::cap_for;
 use seeded_order::insertion_order_of;
 use std::alloc::Global;
 
@@ -73,19 +72,5 @@ impl<'p> Plan<'p> {
         ensures bound { result < length self.now.points.now.vectors }
     {
         self.order[0]
-    }
-}
-
-// The greatest number of points in a batch.
-fn cap_for(n: u32, cap: Option<u32>) -> u32
-    requires points { n ≤ MAX_POINTS }
-    requires cap { IfSome cap (λ cap. (1 ≤ cap) × (cap ≤ MAX_POINTS)) }
-    ensures value { result ≡ cap_of n cap }
-    ensures some { 1 ≤ result }
-    ensures bound { result ≤ MAX_POINTS }
-{
-    match cap {
-        Some(cap) => cap,
-        None => default_cap(n),
     }
 }
