@@ -14,8 +14,18 @@ mod live_gates;
 #[cfg(test)]
 mod made;
 #[cfg(test)]
+mod meeting;
+#[cfg(test)]
+mod on_a_line;
+#[cfg(test)]
+mod pools;
+#[cfg(test)]
 mod query;
 #[cfg(test)]
 mod signed;
 #[cfg(test)]
 mod stamps;
+#[cfg(test)]
+mod told;
+#[cfg(test)]
+mod waiting;

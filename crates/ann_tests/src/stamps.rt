@@ -1,4 +1,5 @@
 //! Signed bytes, stamped indexes and two passes, from bytes to bytes.
+use crate::told::tells;
 use std::alloc::Global;
 use std::sync::Wait;
 use std::thread::Threads;
@@ -107,17 +108,8 @@ fn is_as_told<R: Threads + Wait + Sync>(rt: &R, alloc: Global, case: &Case) -> b
     let (words, points, index, code, after, told) = *case;
     let asked = b"\x02\0\0\0\x01\0\0\0\x0c\x1e".as_slice();
     let files = [("pts", points), ("ann", index), ("ask", asked)];
-    let Ok(ended) = call(rt, alloc, words, &files, NONE) else {
-        return false;
-    };
-    let said = if code == 0 {
-        ended.err.bytes().is_empty() && ended.out.bytes() == told
-    } else {
-        ended.out.bytes().is_empty() && ended.err.bytes() == told
-    };
-    said && ended.status.code == code
-        && ended.shelf.bytes("ann") == Some(after)
-        && ended.shelf.bytes("pts") == Some(points)
+    let left = [("pts", points), ("ann", after)];
+    tells(rt, alloc, words, &files, code, told, &left)
 }
 
 #[test]

@@ -2,60 +2,83 @@
 
 use ann_defs::{Element, Kind};
 use annbuild_clap::{Parsed, parse_by_clap};
-use annbuild_words::{Asked, Verb, read_words};
+use annbuild_words::{Asked, Request, Verb, read_words};
 use std::alloc::Global;
-use std::test::Fail;
 
-/// What clap reads of these words.
-fn read_twice(alloc: Global, words: &[&str]) -> Result<Parsed, Fail> {
+/// These words, owned.
+fn owned(alloc: Global, words: &[&str]) -> Option<Vec<String>> {
     let mut owned = Vec::new(alloc);
     for word in words {
-        owned.push(String::from_str(alloc, *word)?)?;
+        owned.push(String::from_str(alloc, *word).ok()?).ok()?;
     }
+    Some(owned)
+}
+
+/// What clap reads of these words.
+fn read_twice(alloc: Global, words: &[&str]) -> Option<Parsed> {
+    let owned = owned(alloc, words)?;
     match read_words(&owned) {
-        Asked::For(request) => match parse_by_clap(alloc, &request) {
-            Ok(parsed) => Ok(parsed),
-            Err(_) => Err(Fail::from("memory")),
-        },
-        _ => Err(Fail::from("no request")),
+        Asked::For(request) => parse_by_clap(alloc, &request).ok(),
+        _ => None,
     }
 }
 
+/// Whether a request is this command over these names; one that it doesn't have is empty.
+fn is_over(request: &Request<'_>, verb: Verb, first: &str, second: &str, third: &str) -> bool {
+    request.verb == verb
+        && request.names.first == first
+        && request.names.second == second
+        && request.names.third == third
+}
+
 #[test]
-fn odd_file_names_and_settings_are_read_by_clap(rt: HostRuntime) -> Result<(), Fail> {
+fn odd_file_names_and_settings_of_a_build_are_read_by_clap(rt: HostRuntime) {
     let words = ["build", "--cap", "007", "help", "a=b c", "--alpha=5/4"];
-    let parsed = read_twice(rt.alloc(), &words)?;
+    let parsed = read_twice(rt.alloc(), &words).expect(&rt, "a request");
     let build = parsed.request();
-    assert_eq!(rt; build.verb, Verb::Build);
-    assert_eq!(rt; build.names.first, "help");
-    assert_eq!(rt; build.names.second, "a=b c");
-    assert_eq!(rt; build.names.third, "");
-    assert_eq!(rt; build.settings.cap, Some(7));
-    assert_eq!(rt; (build.settings.num, build.settings.den), (5, 4));
-    assert_eq!(rt; build.settings.degree, 64);
+    let settings = build.settings;
+    assert!(rt;
+        is_over(&build, Verb::Build, "help", "a=b c", "")
+            && settings.cap == Some(7)
+            && (settings.num, settings.den, settings.degree) == (5, 4, 64)
+    );
+}
+
+#[test]
+fn a_build_of_layers_is_read_by_clap(rt: HostRuntime) {
     let words = ["build", "x", "--bits=2", "y", "--kind", "hnsw"];
-    let parsed = read_twice(rt.alloc(), &words)?;
+    let parsed = read_twice(rt.alloc(), &words).expect(&rt, "a request");
     let layered = parsed.request();
-    assert_eq!(rt; layered.settings.kind, Kind::Hnsw);
-    assert_eq!(rt; layered.names.second, "y");
-    assert_eq!(rt; (layered.settings.degree, layered.settings.bits), (16, 2));
-    assert_eq!(rt; layered.settings.max_level, 15);
+    let settings = layered.settings;
+    assert!(rt;
+        is_over(&layered, Verb::Build, "x", "y", "")
+            && settings.kind == Kind::Hnsw
+            && (settings.degree, settings.bits, settings.max_level) == (16, 2, 15)
+    );
+}
+
+#[test]
+fn a_query_named_like_commands_is_read_by_clap(rt: HostRuntime) {
     let words = ["query", "build", "query", "--k=3", "x", "--type", "i8"];
-    let parsed = read_twice(rt.alloc(), &words)?;
+    let parsed = read_twice(rt.alloc(), &words).expect(&rt, "a request");
     let query = parsed.request();
-    assert_eq!(rt; query.verb, Verb::Query);
-    assert_eq!(rt; query.names.third, "x");
-    assert_eq!(rt; query.settings.search, 64);
-    assert_eq!(rt; query.settings.k, 3);
-    assert_eq!(rt; query.settings.element, Element::I8);
+    let settings = query.settings;
+    assert!(rt;
+        is_over(&query, Verb::Query, "build", "query", "x")
+            && (settings.search, settings.k) == (64, 3)
+            && settings.element == Element::I8
+    );
+}
+
+#[test]
+fn a_session_named_like_its_command_is_read_by_clap(rt: HostRuntime) {
     let words = ["live", "--callers", "16", "live", "--cap=2", "a b", "x"];
-    let parsed = read_twice(rt.alloc(), &words)?;
+    let parsed = read_twice(rt.alloc(), &words).expect(&rt, "a request");
     let live = parsed.request();
-    assert_eq!(rt; live.verb, Verb::Live);
-    assert_eq!(rt; live.names.first, "live");
-    assert_eq!(rt; live.names.second, "a b");
-    assert_eq!(rt; live.names.third, "x");
-    assert_eq!(rt; live.settings.kind, Kind::Vamana);
-    assert_eq!(rt; (live.settings.callers, live.settings.cap), (16, Some(2)));
-    Ok(())
+    let settings = live.settings;
+    assert!(rt;
+        is_over(&live, Verb::Live, "live", "a b", "x")
+            && settings.kind == Kind::Vamana
+            && (settings.callers, settings.cap) == (16, Some(2))
+    );
 }

@@ -10,4 +10,6 @@ mod lines;
 #[cfg(test)]
 mod reading;
 #[cfg(test)]
+mod settings;
+#[cfg(test)]
 mod table;
