@@ -1,15 +1,20 @@
 //! A long row, in which one id is replaced. The reader marks ids by their remainder by 4096, and tells those apart that
 //! share a mark.
 use crate::indexes::fault_of;
+use ann_shelf::NoMemory;
 use graph_files::{IndexFault, IndexRule};
+use std::alloc::Global;
+use std::test::Fail;
 
 /// The header of an index of lists with 4200 points of degree 128, and the lengths of its first two rows.
 const FRONT: [u32; 10] = [1_313_751_376, 1, 3, 4200, 1, 128, 0, 1, 0, 64];
 
-/// The file of such an index whose second row holds the ids from 2 to 65, but for the word that is replaced. All other
-/// rows are empty.
-fn with_word(place: usize, word: u32) -> [u8; 17_088] {
-    let mut file = [0u8; 17_088];
+/// The length of the file of such an index, of which all rows but the second are empty.
+const LENGTH: usize = 17_088;
+
+/// The fault of such a file whose second row holds the ids from 2 to 65, but for the word that is replaced.
+fn fault_with(alloc: Global, place: usize, word: u32) -> Result<Option<IndexFault>, NoMemory> {
+    let mut file = vec![in alloc; 0u8; LENGTH]?;
     for i in 0..74usize {
         let n = if i < 10 { FRONT[i] } else { i as u32 - 8 };
         let kept = if i == place { word } else { n };
@@ -17,7 +22,7 @@ fn with_word(place: usize, word: u32) -> [u8; 17_088] {
             *cell = byte;
         }
     }
-    file
+    Ok(fault_of(alloc, file.as_slice()))
 }
 
 /// The row's last id breaks a rule.
@@ -26,7 +31,7 @@ fn last(rule: IndexRule) -> Option<IndexFault> {
 }
 
 #[test]
-fn ids_that_share_a_mark_are_told_apart(rt: HostRuntime) {
+fn ids_that_share_a_mark_are_told_apart(rt: HostRuntime) -> Result<(), Fail> {
     let rows = [
         (73usize, 65u32, None),
         (73, 4_098, None),
@@ -37,10 +42,10 @@ fn ids_that_share_a_mark_are_told_apart(rt: HostRuntime) {
         (73, 4_200, last(IndexRule::IdRange)),
     ];
     for (place, id, fault) in rows {
-        assert_eq!(rt;
-            fault_of(rt.alloc(), &with_word(place, id)),
-            fault,
+        assert!(rt;
+            fault_with(rt.alloc(), place, id)? == fault,
             "{id} at {place}"
         );
     }
+    Ok(())
 }
