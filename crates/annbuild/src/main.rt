@@ -22,6 +22,17 @@ const NO_MEMORY: u8 = 8;
 
 const NO_MEMORY_LINE: &[u8] = b"annbuild: out of memory\n";
 
+// A piece of memory that the C library takes from the system by itself, of almost the greatest size that it then learns from.
+const LARGE: usize = 32_000_000;
+
+// Takes a large piece and gives it back, untouched. From then on the C library keeps what batches give back, up to twice
+// that much, for the batches to come, whose pages the system would else clear anew. Nothing depends on it, so a refusal is
+// passed over.
+fn keep_memory(alloc: Global) {
+    let mut piece = Vec::<u8>::new(alloc);
+    let _ = piece.try_reserve(LARGE);
+}
+
 // The status that the process ends with.
 fn exit_of(code: u8) -> ExitCode
     ensures { exit_status result ≡ code }
@@ -48,6 +59,7 @@ fn words_of<R: Env + AllocGlobal>(rt: &R, alloc: Global) -> Result<Vec<String>, 
 
 fn main(rt: HostRuntime) -> ExitCode {
     let alloc = rt.alloc();
+    keep_memory(alloc);
     let mut err = StdOut::err(&rt);
     let Ok(words) = words_of(&rt, alloc) else {
         // Where the line can't be written, the code tells alone.
