@@ -20,7 +20,7 @@ filter-filter p q (x ∷ xs) =
       | false ↦ filter-filter p q xs
     ]
 
-list_all-push : (t : ℕ → Bool) (xs : List ℕ) (y : ℕ) → list_all t (xs ++ y ∷ []) ≡ (list_all t xs && t y)
+pub list_all-push : (t : ℕ → Bool) (xs : List ℕ) (y : ℕ) → list_all t (xs ++ y ∷ []) ≡ (list_all t xs && t y)
 list_all-push t [] y = elim (t y) as (λ b. (b && true) ≡ b) [ true ↦ refl | false ↦ refl ]
 list_all-push t (x ∷ xs) y = elim (t x) as (λ b. (b && list_all t (xs ++ y ∷ [])) ≡ ((b && list_all t xs) && t y)) [ true ↦ list_all-push t xs y | false ↦ refl ]
 

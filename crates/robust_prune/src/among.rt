@@ -11,7 +11,7 @@ ghost use Rattle.robust_prune.specs.Apart.{are_apart, IsSpread};
 ghost use Rattle.robust_prune.specs.Candidates.{AreCandidates};
 ghost use Rattle.robust_prune.specs.Pruned.{IsPruned};
 
-use crate::robust::{is_beyond, most_covered, stays_beside_all};
+use crate::robust::{is_beyond, most_covered};
 use ann_defs::{Alpha, Near};
 use bin_files::Points;
 
@@ -117,6 +117,21 @@ fn is_before(a: Near, b: Near) -> bool
     ensures { result ≡ is_lt (near_cmp a b) }
 {
     a.dist < b.dist || (a.dist == b.dist && a.id < b.id)
+}
+
+// Whether the candidate stays beside each id of the row.
+fn stays_beside_all(points: &Points, alpha: Alpha, row: &[u32], candidate: Near) -> bool
+    requires row { All (λ c. c < length points.now.vectors) row.now }
+    requires candidate { candidate.id < length points.now.vectors }
+    ensures { result ≡ list_all (λ c. stays points.now.vectors alpha.num alpha.den c candidate) row.now }
+{
+    let most = most_covered(alpha, candidate.dist);
+    for neighbour in row {
+        if !is_beyond(points, *neighbour, candidate.id, most) {
+            return false;
+        }
+    }
+    true
 }
 
 // Whether the candidate stays beside each of these.

@@ -90,36 +90,43 @@ pub fn prune(
     keep(points, cands, alpha, degree, out)
 }
 
-// Keeps of the candidates, in their order, those that stay beside all that are kept before.
-fn keep(points: &Points, cands: &[Near], alpha: Alpha, degree: u32, out: &mut [u32]) -> usize
-    requires ids { All (λ x. x.id < length points.now.vectors) cands.now }
+// Keeps of the candidates, in their order, those that stay beside all that are kept before. The kept ones are collected at
+// the front of the candidates.
+fn keep(points: &Points, cands: &mut [Near], alpha: Alpha, degree: u32, out: &mut [u32]) -> usize
+    requires ids { All (λ x. x.id < length points.now.vectors) cands.old }
     requires room { degree ≤ length out.old }
-    ensures kept { take result out.new ≡ ids_of (kept (stays points.now.vectors alpha.num alpha.den) degree cands.now) }
+    ensures kept { take result out.new ≡ ids_of (kept (stays points.now.vectors alpha.num alpha.den) degree cands.old) }
     ensures rest { drop result out.new ≡ drop result out.old }
     ensures bound { result ≤ degree }
+    ensures cands { IsPermutation cands.old cands.new }
 {
     let mut len = 0;
-    for candidate in cands {
+    for i in 0..cands.len() {
         if len == degree as usize {
             break;
         }
-        if stays_beside_all(points, alpha, &out[..len], *candidate) {
+        let candidate = cands[i];
+        if stays_beside_kept(points, alpha, &mut cands[..len], candidate) {
             out[len] = candidate.id;
+            cands.swap(len, i);
             len += 1;
         }
     }
     len
 }
 
-// Whether the candidate stays beside each id of the row.
-pub(crate) fn stays_beside_all(points: &Points, alpha: Alpha, row: &[u32], candidate: Near) -> bool
-    requires row { All (λ c. c < length points.now.vectors) row.now }
+// Whether the candidate stays beside each of the kept ones. One that removes it moves towards the front: the next
+// candidates are near this one, so it likely removes them too.
+fn stays_beside_kept(points: &Points, alpha: Alpha, kept: &mut [Near], candidate: Near) -> bool
+    requires kept { All (λ x. x.id < length points.now.vectors) kept.old }
     requires candidate { candidate.id < length points.now.vectors }
-    ensures { result ≡ list_all (λ c. stays points.now.vectors alpha.num alpha.den c candidate) row.now }
+    ensures beside { result ≡ list_all (λ c. stays points.now.vectors alpha.num alpha.den c candidate) (ids_of kept.old) }
+    ensures kept { IsPermutation kept.old kept.new }
 {
     let most = most_covered(alpha, candidate.dist);
-    for neighbour in row {
-        if !is_beyond(points, *neighbour, candidate.id, most) {
+    for i in 0..kept.len() {
+        if !is_beyond(points, kept[i].id, candidate.id, most) {
+            kept.swap(i, i / 2);
             return false;
         }
     }

@@ -1,5 +1,5 @@
 use Rattle.std.proofs.Common.{◌<◌, ◌∙◌, ap, sym, length}
-use Rattle.std.proofs.lemmas.List.Sorted.{All-permutation}
+use Rattle.std.proofs.lemmas.List.Sorted.{All-permutation, IsPermutation-trans}
 use Rattle.ann_defs.specs.Nearness.{ids_of}
 use Rattle.ann_defs.specs.RobustPrune.{stays, kept}
 use Rattle.robust_prune.proofs.Sorting.{ordered_sorted}
@@ -22,3 +22,6 @@ returns-clause-good c =
 pub returns-clause-pruned : goal.returns-clause-pruned
 returns-clause-pruned c =
     pruned c.args.points.now.vectors c.args.p c.args.alpha.num c.args.alpha.den c.args.degree c.args.cands.now c.sort_unstable.new.self c.requires.cands c.sort_unstable.ensures.permutation _ c.keep.ensures.kept
+
+pub returns-clause-cands : goal.returns-clause-cands
+returns-clause-cands c = IsPermutation-trans _ _ _ c.sort_unstable.ensures.permutation c.keep.ensures.cands

@@ -1,7 +1,7 @@
 use Rattle.std.proofs.Common.{get_or, arith}
 use Rattle.std.proofs.lemmas.Grind.{common_steps}
 use Rattle.robust_prune.proofs.Covering.{beyond_one}
-use Rattle.robust_prune.proofs.robust.stays_beside_all.Goals as goal
+use Rattle.robust_prune.proofs.among.stays_beside_all.Goals as goal
 
 pub loop-neighbour-preserved : goal.loop-neighbour-preserved
 loop-neighbour-preserved c =

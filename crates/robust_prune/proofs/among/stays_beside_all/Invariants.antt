@@ -1,7 +1,7 @@
 use Rattle.std.proofs.Common.{◌≡◌, drop}
 use Rattle.std.specs.List.{list_all}
 use Rattle.ann_defs.specs.RobustPrune.{stays}
-use Rattle.robust_prune.proofs.robust.stays_beside_all.Given as goal
+use Rattle.robust_prune.proofs.among.stays_beside_all.Given as goal
 
 abbrev pub invariant-loop-neighbour : goal.invariant-loop-neighbour
 invariant-loop-neighbour l =
