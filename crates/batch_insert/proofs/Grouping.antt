@@ -141,25 +141,31 @@ module _ (pairs : List Pair) (sorted : IsNonDecreasingBy (λ (p : Pair). p.targe
       (has-mapped (λ (p : Pair). p.target) (take i pairs) (get_or (take i pairs) (i - 1) d) (has_from_Contains (take i pairs) (get_or (take i pairs) (i - 1) d) (Contains-get_or (take i pairs) (i - 1) d short))) in
       stepped ∙ put_there before x before_rises (has_fold_new nat_cmp nat_order.exact [] (map (λ (p : Pair). p.target) (take i pairs)) x there)
 
--- in order, the targets never fall
-less_targets : (a b : Pair) → pair_cmp a b ≡ Less → a.target ≤ b.target
-less_targets a b h =
-    elim (nat_cmp a.target b.target) as (λ r. r ≡ nat_cmp a.target b.target → ordering_then r (nat_cmp a.source b.source) ≡ Less → a.target ≤ b.target) [
-      | Less ↦ λ e _. let less : a.target < b.target = ranked a.target b.target Less e in omega (arith, less)
-      | Equal ↦ λ e _. let same : a.target ≡ b.target = ranked a.target b.target Equal e in omega (arith, same)
+-- what comes first by a number has no greater one
+pub first_least : (a b : ℕ) (r : Ordering) → ordering_then (nat_cmp a b) r ≡ Less → a ≤ b
+first_least a b r h =
+    elim (nat_cmp a b) as (λ s. s ≡ nat_cmp a b → ordering_then s r ≡ Less → a ≤ b) [
+      | Less ↦ λ e _. let less : a < b = ranked a b Less e in omega (arith, less)
+      | Equal ↦ λ e _. let same : a ≡ b = ranked a b Equal e in omega (arith, same)
       | Greater ↦ λ _ k. cc
     ] refl h
 
-pub rising_targets : (xs : List Pair) → Rises pair_cmp xs → IsNonDecreasingBy (λ (p : Pair). p.target) xs
-rising_targets [] up i j d h within = absurd (omega arith)
-rising_targets (x ∷ xs) up zero zero d h within = omega arith
-rising_targets (x ∷ xs) up zero (suc j) d h within =
-    less_targets x (get_or xs j d) (below_has pair_cmp pair_order x (get_or xs j d) xs up.0 (has_from_Contains xs (get_or xs j d) (Contains-get_or xs j d (omega arith))))
-rising_targets (x ∷ xs) up (suc i) zero d h within = absurd (omega arith)
-rising_targets (x ∷ xs) up (suc i) (suc j) d h within = rising_targets xs up.1 i j d (omega arith) (omega arith)
+-- a number that is no greater in what comes first never falls in order
+module _ {K : Type 0} (R : K → K → Ordering) (order : IsExactOrder R) (number : K → ℕ) (least : (a b : K) → R a b ≡ Less → number a ≤ number b) where
+  pub rising_by : (xs : List K) → Rises R xs → IsNonDecreasingBy number xs
+  rising_by [] up i j d h within = absurd (omega arith)
+  rising_by (x ∷ xs) up zero zero d h within = omega arith
+  rising_by (x ∷ xs) up zero (suc j) d h within =
+      least x (get_or xs j d) (below_has R order x (get_or xs j d) xs up.0 (has_from_Contains xs (get_or xs j d) (Contains-get_or xs j d (omega arith))))
+  rising_by (x ∷ xs) up (suc i) zero d h within = absurd (omega arith)
+  rising_by (x ∷ xs) up (suc i) (suc j) d h within = rising_by xs up.1 i j d (omega arith) (omega arith)
 
+  pub ordered_by : (xs : List K) → IsNonDecreasingBy number (ordered R xs)
+  ordered_by xs = rising_by (ordered R xs) (Rises-fold_put R order [] xs tt)
+
+-- in order, the targets never fall
 pub ordered_targets : (xs : List Pair) → IsNonDecreasingBy (λ (p : Pair). p.target) (ordered pair_cmp xs)
-ordered_targets xs = rising_targets (ordered pair_cmp xs) (Rises-fold_put pair_cmp pair_order [] xs tt)
+ordered_targets = ordered_by pair_cmp pair_order (λ (p : Pair). p.target) (λ a b. first_least a.target b.target (nat_cmp a.source b.source))
 
 -- a sorted list without doubles is the set in order
 module _ {K : Type 0} (R : K → K → Ordering) (order : IsExactOrder R) where
@@ -188,7 +194,7 @@ nat_ties a b =
       | Greater ↦ λ e. let more : b < a = ranked a b Greater e in ne_eqb a b (λ q. omega (arith, more, q))
     ] refl
 
-then_eq : (r s : Ordering) → is_eq (ordering_then r s) ≡ (is_eq r && is_eq s)
+pub then_eq : (r s : Ordering) → is_eq (ordering_then r s) ≡ (is_eq r && is_eq s)
 then_eq Less s = refl
 then_eq Equal s = refl
 then_eq Greater s = refl
@@ -197,16 +203,8 @@ pub pair_ties : (x y : Pair) → (nat_eq x.target y.target && nat_eq x.source y.
 pair_ties x y = (λ i. nat_ties x.target y.target i && nat_ties x.source y.source i) ∙ sym (then_eq (nat_cmp x.target y.target) (nat_cmp x.source y.source))
 
 -- numbers that rise
-less_by_cmp : (a b : ℕ) → nat_cmp a b ≡ Less → a < b
-less_by_cmp a b h = ranked a b Less (sym h)
-
 pub rising_numbers : (xs : List ℕ) → Rises nat_cmp xs → (i j : ℕ) → i ≤ j → j < length xs → get_or xs i 0 ≤ get_or xs j 0
-rising_numbers [] up i j h within = absurd (omega arith)
-rising_numbers (x ∷ xs) up zero zero h within = omega arith
-rising_numbers (x ∷ xs) up zero (suc j) h within =
-    let less = less_by_cmp x (get_or xs j 0) (below_has nat_cmp nat_order x (get_or xs j 0) xs up.0 (has_from_Contains xs (get_or xs j 0) (Contains-get_or xs j 0 (omega arith)))) in omega (arith, less)
-rising_numbers (x ∷ xs) up (suc i) zero h within = absurd (omega arith)
-rising_numbers (x ∷ xs) up (suc i) (suc j) h within = rising_numbers xs up.1 i j (omega arith) (omega arith)
+rising_numbers xs up i j = rising_by nat_cmp nat_order (λ x. x) (λ a b e. let less : a < b = ranked a b Less (sym e) in omega (arith, less)) xs up i j 0
 
 pub targets_rise : (pairs : List Pair) → Rises nat_cmp (targets_of pairs)
 targets_rise pairs = Rises-fold_put nat_cmp nat_order [] (map (λ (p : Pair). p.target) pairs) tt
