@@ -3,7 +3,8 @@ use Rattle.std.proofs.Common.{◌≡◌, ◌≢◌, ◌<◌, ◌≤◌, ◌+◌,
 use Rattle.std.proofs.Math.Nat.{div-mul-le_self, div-le_of_le-mul, mul-le-mul_right, mul_comm}
 use Rattle.std.proofs.lemmas.List.{map-set, map-append, take_more, take_more_set, length-map, length-set, drop-take, take-take, take-append-drop, take_all, get_or-set_other}
 use Rattle.std.proofs.lemmas.Nat.{le-div}
-use Rattle.std.proofs.lemmas.List.Elements.{All-set}
+use Rattle.std.proofs.lemmas.List.Elements.{All-set, All-take, All-drop}
+use Rattle.std.proofs.Math.Seq.{take-append_seam, drop-append_seam}
 use Rattle.steal_pool.specs.declared.post.Post.{Post}
 use Rattle.steal_pool.specs.Shares.{share_start, IsShare, EachFrom}
 use Rattle.steal_pool.specs.Work.{scratch_of, AllServe}
@@ -64,3 +65,14 @@ from_set P posts n q from i d le lt =
 
 pub serve_set : {S : Type 0} (P : S → Type 0) (posts : List (Post S)) (n : ℕ) (q : Post S) → P (scratch_of q) → AllServe P posts → AllServe P (set posts n q)
 serve_set P posts n q here all = All-set (λ p. P (scratch_of p)) posts n q here all
+
+-- both parts of posts that serve
+module _ {S : Type 0} (P : S → Type 0) (posts first others : List (Post S)) (is : posts ≡ first ++ others) (all : AllServe P posts) where
+  whole : AllServe P (first ++ others)
+  whole = subst (AllServe P) is all
+
+  pub serve_front : AllServe P first
+  serve_front = subst (AllServe P) (take-append_seam first others) (All-take (λ p. P (scratch_of p)) (length first) (first ++ others) whole)
+
+  pub serve_back : AllServe P others
+  serve_back = subst (AllServe P) (drop-append_seam first others) (All-drop (λ p. P (scratch_of p)) (length first) (first ++ others) whole)

@@ -53,24 +53,34 @@ pub trait Rounds {
         ensures serve { AllServe (W.serves work.now) posts.new }
         ensures workers { count self.new ≡ count self.old }
     {
-        let tasks = work.tasks();
-        let shares = tasks / work.least();
+        let shares = work.tasks() / work.least();
         let busy = self.busy(shares);
         let (first, _others) = posts.split_at_mut(busy as usize);
         match self.way(shares) {
-            Way::Serial => {
-                let blocks = run_all(alloc, work, &mut first[0].scratch, gate)?;
-                Ok(Blocks::of(blocks))
-            }
-            Way::Shares => {
-                let blocks = run_shares(rt, alloc, work, first, gate)?;
-                Ok(Blocks::of(blocks))
-            }
-            Way::Stealing => {
-                let round = Round::new(alloc, tasks, work.width(), busy)?;
-                let (blocks, _report) = round.run(rt, work, first, gate);
-                Ok(blocks)
-            }
+            Way::Serial => run_all(alloc, work, &mut first[0].scratch, gate),
+            Way::Shares => run_shares(rt, alloc, work, first, gate),
+            Way::Stealing => run_stolen(rt, alloc, work, first, gate),
         }
     }
+}
+
+// Runs a stolen round, with a worker for each post.
+fn run_stolen<R: Threads + Sync, W: Work, G: Gate + Sync>(
+    rt: &R,
+    alloc: Global,
+    work: &W,
+    posts: &mut [Post<W::Scratch>],
+    gate: &G,
+) -> Result<Blocks, NoMemory>
+    requires workers { (0 < length posts.old) × (length posts.old ≤ MAX_WORKERS) }
+    requires serve { AllServe (W.serves work.now) posts.old }
+    requires some { (0 < length (W.want work.now)) × (0 < W.wide work.now) }
+    requires small { length (W.want work.now) * W.wide work.now ≤ MAX_WORDS }
+    ensures blocks { IfOk result (λ b. b ≡ W.want work.now) }
+    ensures serve { AllServe (W.serves work.now) posts.new }
+{
+    let workers = posts.len() as u32;
+    let round = Round::new(alloc, work.tasks(), work.width(), workers)?;
+    let (blocks, _report) = round.run(rt, work, posts, gate);
+    Ok(blocks)
 }

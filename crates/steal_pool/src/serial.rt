@@ -1,5 +1,5 @@
 //! One worker, one loop.
-ghost use Rattle.std.specs.Prelude.{◌≡◌, map, IfOk, ◌<◌};
+ghost use Rattle.std.specs.Prelude.{◌≡◌, IfOk, ◌<◌};
 ghost use Rattle.std.proofs.Common.{arith};
 
 use crate::rounds::Rounds;
@@ -8,7 +8,7 @@ use crate::work::Work;
 use ann_defs::Way;
 use ann_shelf::{Gate, NoMemory};
 use std::alloc::Global;
-use steal_table::blank_blocks;
+use steal_table::{Blocks, blank_blocks};
 
 /// One worker, which runs the tasks in their order in the caller's thread.
 #[derive(Drop)]
@@ -45,12 +45,12 @@ pub(crate) fn run_all<W: Work, G: Gate + Sync>(
     work: &W,
     scratch: &mut W::Scratch,
     gate: &G,
-) -> Result<Vec<Vec<u32>>, NoMemory>
+) -> Result<Blocks, NoMemory>
     requires { W.serves work.now scratch.old }
-    ensures blocks { IfOk result (λ v. map (λ y. y.items) v.items ≡ W.want work.now) }
+    ensures blocks { IfOk result (λ b. b ≡ W.want work.now) }
     ensures serves { W.serves work.now scratch.new }
 {
     let mut blocks = blank_blocks(alloc, work.tasks(), work.width() as usize)?;
     run_tasks(work, scratch, 0, 0, blocks.as_mut_slice(), gate);
-    Ok(blocks)
+    Ok(Blocks::of(blocks))
 }

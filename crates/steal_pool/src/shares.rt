@@ -11,7 +11,7 @@ use ann_shelf::{Gate, NoMemory};
 use rayon::slice::par_for_each_mut;
 use std::alloc::Global;
 use std::thread::Threads;
-use steal_table::blank_blocks;
+use steal_table::{Blocks, blank_blocks};
 
 // Runs the tasks, the share of each post in a thread of its own where there is one.
 pub(crate) fn run_shares<R: Threads + Sync, W: Work, G: Gate + Sync>(
@@ -20,10 +20,10 @@ pub(crate) fn run_shares<R: Threads + Sync, W: Work, G: Gate + Sync>(
     work: &W,
     posts: &mut [Post<W::Scratch>],
     gate: &G,
-) -> Result<Vec<Vec<u32>>, NoMemory>
+) -> Result<Blocks, NoMemory>
     requires workers { (0 < length posts.old) × (length posts.old ≤ MAX_WORKERS) }
     requires serve { AllServe (W.serves work.now) posts.old }
-    ensures blocks { IfOk result (λ v. map (λ y. y.items) v.items ≡ W.want work.now) }
+    ensures blocks { IfOk result (λ b. b ≡ W.want work.now) }
     ensures serve { AllServe (W.serves work.now) posts.new }
 {
     let mut blocks = Vec::with_capacity(alloc, work.tasks() as usize)?;
@@ -33,7 +33,7 @@ pub(crate) fn run_shares<R: Threads + Sync, W: Work, G: Gate + Sync>(
     }
     run_posts(rt, work, posts, gate);
     gather(work, posts, &mut blocks);
-    Ok(blocks)
+    Ok(Blocks::of(blocks))
 }
 
 // The first task of a worker's share.
