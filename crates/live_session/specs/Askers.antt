@@ -6,6 +6,8 @@ use Rattle.live_session.specs.declared.asking.Asking.{Asking}
 use Rattle.live_session.specs.declared.asker.Asker.{Asker}
 use Rattle.live_session.specs.declared.asker.Seat.{Seat}
 use Rattle.live_session.specs.declared.seats.Place.{Place}
+use Rattle.versions.specs.Standing.{Standing}
+use Rattle.live_session.specs.Rows.{Row}
 use Rattle.live_session.specs.Asked.{IsRow}
 
 -- room that serves a caller
@@ -22,6 +24,13 @@ pub record Stands (c : Course) (a : Asking) (x : Asker) : Type 0 where
   pub live : IsRow c a x.seat.first 1 x.caller.seen x.live
   pub last : IsRow c a x.seat.first (total_of c) (total_of c) x.last
   pub none : x.last.answers ≡ []
+
+-- a caller that saw the graph after this batch and asks there: its seat, and the row of its answers in that graph
+pub record AsksIn (c : Course) (a : Asking) (batch : ℕ) (x : Standing) (s : Seat) (r : Row) : Type 0 where
+  pub course : x.course ≡ c
+  pub seen : x.seen ≡ batch
+  pub seat : IsSeat c a s
+  pub row : IsRow c a s.first batch batch r
 
 -- the callers in the order in which they are taken from the end
 abbrev pub AreNumbered : ℕ → List Asker → Type 0

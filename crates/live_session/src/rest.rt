@@ -3,7 +3,7 @@ ghost use Rattle.std.specs.Prelude.{◌≡◌, ◌+◌, ◌*◌, ◌<◌, ◌≤
 ghost use Rattle.std.specs.List.{All};
 ghost use Rattle.versions.specs.Course.{course_of, total_of};
 ghost use Rattle.live_session.specs.Asked.{AreWhole, Fits, IsRow, IsWhole};
-ghost use Rattle.live_session.specs.Askers.{AreNumbered, IsSeat, Stands};
+ghost use Rattle.live_session.specs.Askers.{AreNumbered, AsksIn, IsSeat, Stands};
 
 use crate::asker::{Asker, Seat, ask, query_at};
 use crate::asking::Asking;
@@ -47,20 +47,14 @@ fn ask_last(
     graph: &LastGraph<'_>,
     query: u32,
 )
-    requires course { caller.old.course ≡ course_of graph.now.plan.now }
     requires last { graph.now.batch ≡ total_of (course_of graph.now.plan.now) }
-    requires seen { caller.old.seen ≡ graph.now.batch }
     requires fits { Fits (course_of graph.now.plan.now) asking.now }
-    requires seat { IsSeat (course_of graph.now.plan.now) asking.now seat.old }
-    requires row { IsRow (course_of graph.now.plan.now) asking.now seat.old.first graph.now.batch graph.now.batch row.old }
+    requires asks { AsksIn (course_of graph.now.plan.now) asking.now graph.now.batch caller.old seat.old row.old }
     requires room { length row.old.answers < row.old.size }
     requires next { query ≡ seat.old.first + length row.old.answers * asking.now.callers }
     requires query { query < length asking.now.queries.now.vectors }
-    ensures course { caller.new.course ≡ caller.old.course }
-    ensures seen { caller.new.seen ≡ graph.now.batch }
-    ensures seat { IsSeat (course_of graph.now.plan.now) asking.now seat.new }
+    ensures asks { AsksIn (course_of graph.now.plan.now) asking.now graph.now.batch caller.new seat.new row.new }
     ensures first { seat.new.first ≡ seat.old.first }
-    ensures row { IsRow (course_of graph.now.plan.now) asking.now seat.old.first graph.now.batch graph.now.batch row.new }
     ensures grown { length row.new.answers ≡ length row.old.answers + 1 }
     ensures size { row.new.size ≡ row.old.size }
 {
@@ -79,12 +73,9 @@ fn ask_all_last(
     asking: &Asking<'_>,
     graph: &LastGraph<'_>,
 )
-    requires course { caller.old.course ≡ course_of graph.now.plan.now }
     requires last { graph.now.batch ≡ total_of (course_of graph.now.plan.now) }
-    requires seen { caller.old.seen ≡ graph.now.batch }
     requires fits { Fits (course_of graph.now.plan.now) asking.now }
-    requires seat { IsSeat (course_of graph.now.plan.now) asking.now seat.old }
-    requires row { IsRow (course_of graph.now.plan.now) asking.now seat.old.first graph.now.batch graph.now.batch row.old }
+    requires asks { AsksIn (course_of graph.now.plan.now) asking.now graph.now.batch caller.old seat.old row.old }
     ensures row { IsWhole (course_of graph.now.plan.now) asking.now seat.old.first graph.now.batch graph.now.batch row.new }
 {
     for place in row.len()..row.size() {
