@@ -12,6 +12,7 @@ use Rattle.graph_rows.specs.Layers.{Layered}
 use Rattle.graph_rows.specs.WellFormed.{IsFurtherLayer}
 use Rattle.graph_rows.proofs.LayerLists.{length-zip}
 use Rattle.graph_files.proofs.Layering.{further, parts_of}
+use Rattle.graph_files.proofs.Shown.{bytes_on}
 use Rattle.graph_files.proofs.LayerLaws.{layer_short, layer_count, layer_ids_fail, layer_start, layer_rows_fail, layer_is, sound_start, sound_count}
 use Rattle.graph_files.proofs.read_layers.read_layer.Goals as goal
 
@@ -100,3 +101,9 @@ returns-clause-count g c =
     let same : length c.in_ok-graph.graph.0.rows ≡ length ids = c.in_ok-graph.ensures.shape.1 ∙ ap length c.deref-2.ensures.value in
     let many : length c.of.result.entries ≡ c.in_ok-count.count = ap (λ (l : Layered). length l.entries) c.of.ensures ∙ length-zip ids c.in_ok-graph.graph.0.rows same ∙ c.in_ok-ids.ensures.count in
     omega (arith, (sound_count c.args.degree (count_in c.args.below) c.args.words c.args.at c.in_ok-count.count (subst (λ k. None ≡ members_fault c.args.degree k c.args.words c.args.at c.in_ok-count.count) c.count.ensures.count c.in-None.ensures)).within, c.requires.count)
+
+pub returns-clause-bytes : goal.returns-clause-bytes
+returns-clause-bytes g c = three_told (g.F.Shelf.shown c.args.shelf.now).held (g.F.Shelf.shown c.word.new.shelf).held (g.F.Shelf.shown c.read_listed.new.shelf).held c.in_ok-count.ensures.only_reads.held c.in_ok-ids.ensures.only_reads.held
+    c.in_ok-count.ensures.bytes c.in_ok-ids.ensures.bytes c.in_ok-graph.ensures.bytes (λ files counted listed rows.
+    let file = bytes_of files c.args.name.now in
+    bytes_on file c.args.at (c.args.at + 4) c.in_ok-graph.graph.1 counted (bytes_on file (c.args.at + 4) (c.args.at + 4 + 4 * c.in_ok-count.count) c.in_ok-graph.graph.1 listed rows))
