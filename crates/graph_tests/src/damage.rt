@@ -1,9 +1,10 @@
 //! Damaged files of each kind: cut at every length, with a byte too many, and with each word of the header set to 0, to its
 //! limit, to one past it, and to the greatest number.
-use crate::indexes::{FOUR_POINTS, TWO_LAYERS, fault_of};
+use crate::indexes::{FOUR_POINTS, TWO_LAYERS, fault_of, is_malformed};
 use crate::layers::THREE_LAYERS;
 use ann_shelf::Quantity;
 use graph_files::{IndexFault, IndexRule};
+use std::alloc::Global;
 
 /// An index of lists: kind 3, rows [1], [0, 2], [1, 3] and [2].
 pub(crate) const IN_LISTS: [u8; 72] = [
@@ -87,6 +88,63 @@ fn with_word(file: &[u8], place: usize, word: u32) -> [u8; 80] {
     copy
 }
 
+/// Whether a file with a word replaced is refused by a rule at a place.
+fn breaks(alloc: Global, file: &[u8], at: usize, word: u32, place: u64, rule: IndexRule) -> bool {
+    match with_word(file, at, word).get(..file.len()) {
+        Some(whole) => is_malformed(alloc, whole, place, rule),
+        None => false,
+    }
+}
+
+/// Whether a file with a word replaced is refused since that is over the limit of a quantity.
+fn exceeds(alloc: Global, file: &[u8], at: usize, word: u32, name: Quantity, limit: u64) -> bool {
+    let wanted = Some(IndexFault::TooLarge {
+        name,
+        value: u64::from(word),
+        limit,
+    });
+    match with_word(file, at, word).get(..file.len()) {
+        Some(whole) => fault_of(alloc, whole) == wanted,
+        None => false,
+    }
+}
+
+/// Whether a file with a word replaced is read.
+fn is_read_with(alloc: Global, file: &[u8], at: usize, word: u32) -> bool {
+    match with_word(file, at, word).get(..file.len()) {
+        Some(whole) => fault_of(alloc, whole).is_none(),
+        None => false,
+    }
+}
+
+/// Whether the first bytes of a file are refused where they end.
+fn is_cut_at(alloc: Global, file: &[u8], cut: usize) -> bool {
+    let rule = if cut < 32 {
+        IndexRule::ShortHeader
+    } else {
+        IndexRule::Short
+    };
+    match file.get(..cut) {
+        Some(front) => is_malformed(alloc, front, cut as u64, rule),
+        None => false,
+    }
+}
+
+/// Whether a file is read, and refused at its end if a byte stands behind it.
+fn ends_as_it_should(alloc: Global, file: &[u8]) -> bool {
+    let mut longer = [0u8; 112];
+    for (cell, byte) in longer.iter_mut().zip(file) {
+        *cell = *byte;
+    }
+    match longer.get(..file.len().wrapping_add(1)) {
+        Some(more) => {
+            fault_of(alloc, file).is_none()
+                && is_malformed(alloc, more, file.len() as u64, IndexRule::Trailing)
+        }
+        None => false,
+    }
+}
+
 #[test]
 fn each_cut_is_refused_where_it_ends(rt: HostRuntime) {
     let files = [
@@ -97,33 +155,9 @@ fn each_cut_is_refused_where_it_ends(rt: HostRuntime) {
     ];
     for file in files {
         for cut in 0..file.len() {
-            let rule = if cut < 32 {
-                IndexRule::ShortHeader
-            } else {
-                IndexRule::Short
-            };
-            assert_eq!(rt;
-                fault_of(rt.alloc(), &file[..cut]),
-                Some(IndexFault::Malformed {
-                    place: cut as u64,
-                    rule
-                }),
-                "cut at {cut}"
-            );
+            assert!(rt; is_cut_at(rt.alloc(), file, cut), "cut at {cut}");
         }
-        assert_eq!(rt; fault_of(rt.alloc(), file), None);
-        let mut longer = [0u8; 112];
-        for (cell, byte) in longer.iter_mut().zip(file) {
-            *cell = *byte;
-        }
-        assert!(rt; file.len() < 112);
-        assert_eq!(rt;
-            fault_of(rt.alloc(), &longer[..file.len() + 1]),
-            Some(IndexFault::Malformed {
-                place: file.len() as u64,
-                rule: IndexRule::Trailing
-            })
-        );
+        assert!(rt; ends_as_it_should(rt.alloc(), file));
     }
 }
 
@@ -139,21 +173,38 @@ fn each_word_of_a_header_is_refused_or_read(rt: HostRuntime) {
     ];
     for (file, table) in rows {
         for (at, word, place, rule) in table {
-            let copy = with_word(file, *at, *word);
-            assert_eq!(rt;
-                fault_of(rt.alloc(), &copy[..file.len()]),
-                Some(IndexFault::Malformed {
-                    place: *place,
-                    rule: *rule
-                }),
+            assert!(rt;
+                breaks(rt.alloc(), file, *at, *word, *place, *rule),
                 "{word} at {at}"
             );
         }
     }
 }
 
+/// Whether a file is read with this degree, and refused with a greater one, and with more rows than are there.
+fn keeps_its_degree(alloc: Global, file: &[u8], degree: u32) -> bool {
+    let limit = u64::from(degree);
+    exceeds(
+        alloc,
+        file,
+        20,
+        degree.wrapping_add(1),
+        Quantity::Degree,
+        limit,
+    ) && exceeds(alloc, file, 20, MOST, Quantity::Degree, limit)
+        && is_read_with(alloc, file, 20, degree)
+        && breaks(
+            alloc,
+            file,
+            12,
+            4_194_304,
+            file.len() as u64,
+            IndexRule::Short,
+        )
+}
+
 #[test]
-fn each_limit_is_kept_and_reached(rt: HostRuntime) {
+fn each_limit_is_kept(rt: HostRuntime) {
     // Each with the greatest degree of its kind.
     let files = [
         (FOUR_POINTS.as_slice(), 128u32),
@@ -162,50 +213,20 @@ fn each_limit_is_kept_and_reached(rt: HostRuntime) {
     ];
     for (file, degree) in files {
         for (at, word, name, limit) in OVER {
-            let copy = with_word(file, at, word);
-            assert_eq!(rt;
-                fault_of(rt.alloc(), &copy[..file.len()]),
-                Some(IndexFault::TooLarge {
-                    name,
-                    value: u64::from(word),
-                    limit
-                }),
+            assert!(rt;
+                exceeds(rt.alloc(), file, at, word, name, limit),
                 "{word} at {at}"
             );
         }
-        for word in [degree + 1, MOST] {
-            let copy = with_word(file, 20, word);
-            assert_eq!(rt;
-                fault_of(rt.alloc(), &copy[..file.len()]),
-                Some(IndexFault::TooLarge {
-                    name: Quantity::Degree,
-                    value: u64::from(word),
-                    limit: u64::from(degree)
-                }),
-                "degree {word}"
-            );
-        }
-        assert_eq!(rt;
-            fault_of(rt.alloc(), &with_word(file, 20, degree)[..file.len()]),
-            None
-        );
-        // So many rows aren't there.
-        assert_eq!(rt;
-            fault_of(rt.alloc(), &with_word(file, 12, 4_194_304)[..file.len()]),
-            Some(IndexFault::Malformed {
-                place: file.len() as u64,
-                rule: IndexRule::Short
-            })
-        );
+        assert!(rt; keeps_its_degree(rt.alloc(), file, degree));
     }
+}
+
+#[test]
+fn each_limit_is_reached(rt: HostRuntime) {
     for file in [FOUR_POINTS.as_slice(), IN_LISTS.as_slice()] {
         for (at, word) in ALLOWED {
-            let copy = with_word(file, at, word);
-            assert_eq!(rt;
-                fault_of(rt.alloc(), &copy[..file.len()]),
-                None,
-                "{word} at {at}"
-            );
+            assert!(rt; is_read_with(rt.alloc(), file, at, word), "{word} at {at}");
         }
     }
 }

@@ -1,8 +1,7 @@
 //! Files of indexes with further layers.
-use crate::indexes::{FOUR_POINTS, TWO_LAYERS, fault_of};
-use ann_shelf::MemShelf;
-use graph_files::{IndexFault, IndexRule, Kind, read_index, write_index};
-use std::test::*;
+use crate::indexes::{FOUR_POINTS, TWO_LAYERS, fault_of, is_malformed, is_written_back};
+use graph_files::{IndexRule, Kind};
+use std::alloc::Global;
 
 // Layer 1 holds 1 and 3, which are in each other's rows; layer 2 holds 1.
 pub(crate) const THREE_LAYERS: [u8; 108] = [
@@ -50,17 +49,9 @@ const THREE_BROKEN: [Broken; 13] = [
 ];
 
 #[test]
-fn a_layered_index_is_read_and_written_back(rt: HostRuntime) -> Result<(), Fail> {
-    let mut shelf = MemShelf::new(rt.alloc());
-    for (file, layers) in [(TWO_LAYERS.as_slice(), 1), (THREE_LAYERS.as_slice(), 2)] {
-        shelf.put("index", file)?;
-        let index = read_index(rt.alloc(), &mut shelf, "index")?;
-        assert_eq!(rt; index.kind, Kind::Hnsw);
-        assert_eq!(rt; index.upper.len(), layers);
-        assert!(rt; write_index(&mut shelf, "copy", &index).is_ok());
-        assert_eq!(rt; shelf.bytes("copy").ok_or("no file")?, file);
-    }
-    Ok(())
+fn a_layered_index_is_read_and_written_back(rt: HostRuntime) {
+    assert!(rt; is_written_back(rt.alloc(), &TWO_LAYERS, Kind::Hnsw, 1));
+    assert!(rt; is_written_back(rt.alloc(), &THREE_LAYERS, Kind::Hnsw, 2));
 }
 
 #[test]
@@ -71,28 +62,33 @@ fn a_layered_file_may_have_one_layer(rt: HostRuntime) {
     assert_eq!(rt; fault_of(rt.alloc(), &bytes), None);
 }
 
+// Whether a file with this byte set is refused by a rule at a place.
+fn breaks(alloc: Global, file: &mut [u8], broken: Broken) -> bool {
+    let (at, byte, place, rule) = broken;
+    if let Some(cell) = file.get_mut(at) {
+        *cell = byte;
+    }
+    is_malformed(alloc, file, place, rule)
+}
+
 #[test]
 fn a_broken_rule_of_a_layer_is_named_with_its_place(rt: HostRuntime) {
-    for (at, byte, place, rule) in TWO_BROKEN {
+    for broken in TWO_BROKEN {
         let mut bytes = TWO_LAYERS;
-        if let Some(cell) = bytes.get_mut(at) {
-            *cell = byte;
-        }
-        assert_eq!(rt;
-            fault_of(rt.alloc(), &bytes),
-            Some(IndexFault::Malformed { place, rule }),
-            "{byte} at {at}"
+        assert!(rt;
+            breaks(rt.alloc(), &mut bytes, broken),
+            "{} at {}",
+            broken.1,
+            broken.0
         );
     }
-    for (at, byte, place, rule) in THREE_BROKEN {
+    for broken in THREE_BROKEN {
         let mut bytes = THREE_LAYERS;
-        if let Some(cell) = bytes.get_mut(at) {
-            *cell = byte;
-        }
-        assert_eq!(rt;
-            fault_of(rt.alloc(), &bytes),
-            Some(IndexFault::Malformed { place, rule }),
-            "{byte} at {at}"
+        assert!(rt;
+            breaks(rt.alloc(), &mut bytes, broken),
+            "{} at {}",
+            broken.1,
+            broken.0
         );
     }
 }

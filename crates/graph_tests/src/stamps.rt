@@ -1,8 +1,8 @@
 //! Files of version 2: stamps of each kind that are read and written back, and broken ones.
 use crate::damage::IN_LISTS;
-use crate::indexes::{FOUR_POINTS, fault_of};
+use crate::indexes::{FOUR_POINTS, is_malformed, is_written_as};
 use ann_shelf::MemShelf;
-use graph_files::{IndexFault, IndexRule, read_index, write_index};
+use graph_files::{IndexRule, read_index};
 use std::alloc::Global;
 
 /// An index file of version 1, its kind and its degree, and a stamp: the words before the seed, and the floor.
@@ -118,11 +118,7 @@ fn is_written_back(alloc: Global, bytes: &[u8]) -> bool {
         return false;
     }
     match read_index(alloc, &mut shelf, "index") {
-        Ok(index) => {
-            index.stamp.is_some()
-                && write_index(&mut shelf, "copy", &index).is_ok()
-                && shelf.bytes("copy") == Some(bytes)
-        }
+        Ok(index) => { index.stamp.is_some() && is_written_as(&mut shelf, &index, bytes) }
         Err(_) => false,
     }
 }
@@ -144,12 +140,8 @@ fn is_refused(alloc: Global, file: &Stamped, at: usize, word: u32) -> bool {
     let (mut bytes, len) = stamped(file);
     put(&mut bytes, at, &word.to_le_bytes());
     let place = if at == 100 { 96 } else { at as u64 };
-    let wanted = Some(IndexFault::Malformed {
-        place,
-        rule: IndexRule::Stamp,
-    });
     match bytes.get(..len) {
-        Some(whole) => fault_of(alloc, whole) == wanted,
+        Some(whole) => is_malformed(alloc, whole, place, IndexRule::Stamp),
         None => false,
     }
 }
@@ -170,12 +162,8 @@ fn each_cut_of_a_stamp_is_refused_where_it_ends(rt: HostRuntime) {
     for file in &FILES {
         let (bytes, _) = stamped(file);
         for cut in 32..140 {
-            let wanted = Some(IndexFault::Malformed {
-                place: cut as u64,
-                rule: IndexRule::Short,
-            });
             assert!(rt;
-                fault_of(rt.alloc(), &bytes[..cut]) == wanted,
+                is_malformed(rt.alloc(), &bytes[..cut], cut as u64, IndexRule::Short),
                 "cut at {cut}"
             );
         }
