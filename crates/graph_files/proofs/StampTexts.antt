@@ -1,5 +1,5 @@
 -- The bytes of a stamp: what was read from bytes is what they say, and what is written is read.
-use Rattle.std.proofs.Common.{◌≡◌, ◌≢◌, ℕ, ◌+◌, ◌<◌, ◌≤◌, Bool, true, false, cond, eqb, List, ◌++◌, length, take, drop, get_or, Option, Some, None, Ok, refl, sym, ap, subst, ◌∙◌, arith, length-drop, inl, inr}
+use Rattle.std.proofs.Common.{◌≡◌, ◌≢◌, ℕ, suc, zero, ◌+◌, ◌*◌, ◌<◌, ◌≤◌, Bool, true, false, cond, eqb, List, ◌++◌, length, take, drop, get_or, Option, Some, None, Ok, refl, sym, ap, subst, ◌∙◌, arith, length-drop, inl, inr}
 use Rattle.std.specs.Prelude.{◌⊎◌}
 use Rattle.std.specs.Int.{w64, to_le_bytes}
 use Rattle.std.proofs.lemmas.Bool.{eq-eqb, eqb-true}
@@ -25,26 +25,23 @@ long_there file at next fits is are =
     ∙ ap (λ xs. xs ++ drop 8 (drop at file)) (sym (le_bytes_8 (take 8 (drop at file)) (u64_at file at) eight (λ i. part_below file 8 at are i) refl))
     ∙ ap (λ xs. to_le_bytes w64 (u64_at file at) ++ xs) (drop-drop 8 at file ∙ ap (λ k. drop k file) (omega (arith, is)))
 
+-- so many words from a place on, before more bytes
+abbrev words_then : List ℕ → ℕ → ℕ → List ℕ → List ℕ
+words_then file zero at rest = rest
+words_then file (suc n) at rest = word (u32_at file at) ++ words_then file n (at + 4) rest
+
+words_there : (file : List ℕ) (n at next : ℕ) → next ≤ length file → next ≡ at + 4 * n → AreBytes file → drop at file ≡ words_then file n at (drop next file)
+words_there file zero at next fits is are = let same : at ≡ next = omega (arith, is) in ap (λ k. drop k file) same
+words_there file (suc n) at next fits is are =
+    word_there file at (omega (arith, fits, is)) are ∙ ap (λ xs. word (u32_at file at) ++ xs) (words_there file n (at + 4) next fits (omega (arith, is)) are)
+
 -- the stamp in the first bytes of a file spells them
 front_spelled : (front : List ℕ) → length front ≡ 136 → AreBytes front → drop 32 front ≡ stamp_bytes (stamp_in front)
 front_spelled front whole are =
-    word_there front 32 (omega (arith, whole)) are
-    ∙ ap (λ xs. word (u32_at front 32) ++ xs) (word_there front 36 (omega (arith, whole)) are
-    ∙ ap (λ xs. word (u32_at front 36) ++ xs) (word_there front 40 (omega (arith, whole)) are
-    ∙ ap (λ xs. word (u32_at front 40) ++ xs) (word_there front 44 (omega (arith, whole)) are
-    ∙ ap (λ xs. word (u32_at front 44) ++ xs) (word_there front 48 (omega (arith, whole)) are
-    ∙ ap (λ xs. word (u32_at front 48) ++ xs) (word_there front 52 (omega (arith, whole)) are
-    ∙ ap (λ xs. word (u32_at front 52) ++ xs) (word_there front 56 (omega (arith, whole)) are
-    ∙ ap (λ xs. word (u32_at front 56) ++ xs) (word_there front 60 (omega (arith, whole)) are
-    ∙ ap (λ xs. word (u32_at front 60) ++ xs) (word_there front 64 (omega (arith, whole)) are
-    ∙ ap (λ xs. word (u32_at front 64) ++ xs) (word_there front 68 (omega (arith, whole)) are
-    ∙ ap (λ xs. word (u32_at front 68) ++ xs) (word_there front 72 (omega (arith, whole)) are
-    ∙ ap (λ xs. word (u32_at front 72) ++ xs) (word_there front 76 (omega (arith, whole)) are
-    ∙ ap (λ xs. word (u32_at front 76) ++ xs) (word_there front 80 (omega (arith, whole)) are
-    ∙ ap (λ xs. word (u32_at front 80) ++ xs) (word_there front 84 (omega (arith, whole)) are
-    ∙ ap (λ xs. word (u32_at front 84) ++ xs) (long_there front 88 96 (omega (arith, whole)) (omega arith) are
+    words_there front 14 32 88 (omega (arith, whole)) refl are
+    ∙ ap (words_then front 14 32) (long_there front 88 96 (omega (arith, whole)) (omega arith) are
     ∙ ap (λ xs. to_le_bytes w64 (u64_at front 88) ++ xs) (long_there front 96 104 (omega (arith, whole)) (omega arith) are
-    ∙ ap (λ xs. to_le_bytes w64 (u64_at front 96) ++ xs) (sym (take_all 32 (drop 104 front) (omega (arith, whole, length-drop 104 front)))))))))))))))))))
+    ∙ ap (λ xs. to_le_bytes w64 (u64_at front 96) ++ xs) (sym (take_all 32 (drop 104 front) (omega (arith, whole, length-drop 104 front))))))
 
 front_are : (file : List ℕ) → AreBytes file → AreBytes (take 136 file)
 front_are file are i = subst (λ xs. get_or xs i 0 < 256) (ap (take 136) refl) (part_below file 136 0 are i)
