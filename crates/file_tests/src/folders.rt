@@ -14,6 +14,12 @@ fn fresh_folder(rt: &HostRuntime, name: &str) -> io::Result<()> {
     fs::create_dir(rt, name)
 }
 
+// A folder of this name with a file of this path and text alone.
+fn folder_with(rt: &HostRuntime, name: &str, path: &str, text: &str) -> io::Result<()> {
+    fresh_folder(rt, name)?;
+    fs::write(rt, path, text)
+}
+
 // How many files a folder has.
 fn count_of_files(rt: &HostRuntime, name: &str) -> io::Result<u32> {
     let mut count = 0u32;
@@ -95,12 +101,17 @@ fn reads_far_inside<F: Shelf>(shelf: &mut F, piece: &[u8]) -> Result<bool, Slip>
     Ok(first && second && !past)
 }
 
+// The same by a shelf of its own.
+fn reads_pieces(rt: &HostRuntime) -> Result<bool, Fail> {
+    let piece = long_piece(rt.alloc())?;
+    let mut shelf = DirShelf::new(rt, rt.alloc(), "pieces.tmp");
+    Ok(reads_far_inside(&mut shelf, &piece)?)
+}
+
 #[test]
 fn pieces_are_appended_and_read_far_inside(rt: HostRuntime) -> Result<(), Fail> {
     fresh_folder(&rt, "pieces.tmp")?;
-    let piece = long_piece(rt.alloc())?;
-    let mut shelf = DirShelf::new(&rt, rt.alloc(), "pieces.tmp");
-    assert!(rt; reads_far_inside(&mut shelf, &piece)?);
+    assert!(rt; reads_pieces(&rt)?);
     fs::remove_dir_all(&rt, "pieces.tmp")?;
     Ok(())
 }
@@ -121,13 +132,17 @@ fn replaces_beside_a_reader<F: Shelf>(
     Ok(before && unfinished && finished && after)
 }
 
+// The same by two shelves of the folder.
+fn reads_on(rt: &HostRuntime) -> Result<bool, Fail> {
+    let mut reader = DirShelf::new(rt, rt.alloc(), "replaced.tmp");
+    let mut writer = DirShelf::new(rt, rt.alloc(), "replaced.tmp");
+    replaces_beside_a_reader(rt, &mut reader, &mut writer)
+}
+
 #[test]
 fn a_file_that_is_replaced_is_read_on_as_it_was(rt: HostRuntime) -> Result<(), Fail> {
-    fresh_folder(&rt, "replaced.tmp")?;
-    fs::write(&rt, "replaced.tmp/a", "old!")?;
-    let mut reader = DirShelf::new(&rt, rt.alloc(), "replaced.tmp");
-    let mut writer = DirShelf::new(&rt, rt.alloc(), "replaced.tmp");
-    assert!(rt; replaces_beside_a_reader(&rt, &mut reader, &mut writer)?);
+    folder_with(&rt, "replaced.tmp", "replaced.tmp/a", "old!")?;
+    assert!(rt; reads_on(&rt)?);
     fs::remove_dir_all(&rt, "replaced.tmp")?;
     Ok(())
 }
@@ -145,31 +160,44 @@ fn leaves_one_of_the_two<F: Shelf>(
     Ok(earlier && later && count_of_files(rt, "two.tmp")? == 1)
 }
 
+// The same by two shelves of the folder.
+fn two_write(rt: &HostRuntime) -> Result<bool, Fail> {
+    let mut first = DirShelf::new(rt, rt.alloc(), "two.tmp");
+    let mut second = DirShelf::new(rt, rt.alloc(), "two.tmp");
+    leaves_one_of_the_two(rt, &mut first, &mut second)
+}
+
 #[test]
 fn two_writers_of_one_name_leave_one_of_the_two(rt: HostRuntime) -> Result<(), Fail> {
     fresh_folder(&rt, "two.tmp")?;
-    let mut first = DirShelf::new(&rt, rt.alloc(), "two.tmp");
-    let mut second = DirShelf::new(&rt, rt.alloc(), "two.tmp");
-    assert!(rt; leaves_one_of_the_two(&rt, &mut first, &mut second)?);
+    assert!(rt; two_write(&rt)?);
     fs::remove_dir_all(&rt, "two.tmp")?;
     Ok(())
 }
 
-// Begins two files and finishes none. Whether the folder has both beside the old one while the shelf is there.
+// Begins two files and finishes none.
+fn begin_two<F: Shelf>(shelf: &mut F) -> Result<(), Slip> {
+    write_two(shelf, "a", b"ha", b"lf")?;
+    shelf.begin("b")
+}
+
+// The same by a shelf of its own. Whether the folder has both beside the old one while the shelf is there.
 fn finishes_none(rt: &HostRuntime) -> Result<bool, Fail> {
     let mut shelf = DirShelf::new(rt, rt.alloc(), "kept.tmp");
-    write_two(&mut shelf, "a", b"ha", b"lf")?;
-    shelf.begin("b")?;
+    begin_two(&mut shelf)?;
     Ok(count_of_files(rt, "kept.tmp")? == 3)
+}
+
+// Whether the old file is the only one.
+fn is_kept(rt: &HostRuntime) -> io::Result<bool> {
+    Ok(count_of_files(rt, "kept.tmp")? == 1 && is_text(rt, "kept.tmp/a", "old")?)
 }
 
 #[test]
 fn what_is_not_finished_leaves_the_old_file(rt: HostRuntime) -> Result<(), Fail> {
-    fresh_folder(&rt, "kept.tmp")?;
-    fs::write(&rt, "kept.tmp/a", "old")?;
+    folder_with(&rt, "kept.tmp", "kept.tmp/a", "old")?;
     assert!(rt; finishes_none(&rt)?);
-    assert!(rt; count_of_files(&rt, "kept.tmp")? == 1);
-    assert!(rt; is_text(&rt, "kept.tmp/a", "old")?);
+    assert!(rt; is_kept(&rt)?);
     fs::remove_dir_all(&rt, "kept.tmp")?;
     Ok(())
 }
@@ -195,26 +223,38 @@ fn writes_by_an_absolute_name<F: Shelf>(
     Ok(written && read && shelf.begin("a") == Err(Slip::Failed))
 }
 
+// The same by a shelf of its own.
+fn writes_absolute(rt: &HostRuntime) -> Result<bool, Fail> {
+    let name = name_in(rt, "absolute.tmp")?;
+    let mut shelf = DirShelf::new(rt, rt.alloc(), "no_such_folder.tmp");
+    writes_by_an_absolute_name(rt, &mut shelf, name.as_str())
+}
+
 #[test]
 fn a_name_that_begins_with_a_slash_is_absolute(rt: HostRuntime) -> Result<(), Fail> {
     fresh_folder(&rt, "absolute.tmp")?;
-    let name = name_in(&rt, "absolute.tmp")?;
-    let mut shelf = DirShelf::new(&rt, rt.alloc(), "no_such_folder.tmp");
-    assert!(rt; writes_by_an_absolute_name(&rt, &mut shelf, name.as_str())?);
+    assert!(rt; writes_absolute(&rt)?);
     fs::remove_dir_all(&rt, "absolute.tmp")?;
     Ok(())
+}
+
+// Whether a read of this name fails.
+fn is_not_read<F: Shelf>(shelf: &mut F, name: &str) -> bool {
+    reads_two(shelf, name, 0, 0, 0) == Err(Slip::Failed)
+}
+
+// Whether neither a folder nor a device nor a file that isn't there is read, and the folder isn't begun.
+fn reads_no_such<F: Shelf>(shelf: &mut F) -> bool {
+    is_not_read(shelf, ".")
+        && is_not_read(shelf, "/dev/zero")
+        && is_not_read(shelf, "no_such_file.tmp")
+        && shelf.begin(".") == Err(Slip::Failed)
 }
 
 #[test]
 fn folders_and_devices_are_not_read(rt: HostRuntime) {
     let mut shelf = DirShelf::new(&rt, rt.alloc(), ".");
-    for name in [".", "/dev/zero", "no_such_file.tmp"] {
-        assert!(rt;
-            reads_two(&mut shelf, name, 0, 0, 0) == Err(Slip::Failed),
-            "{name}"
-        );
-    }
-    assert!(rt; shelf.begin(".") == Err(Slip::Failed));
+    assert!(rt; reads_no_such(&mut shelf));
 }
 
 // Whether a file with this name is written and finished.
@@ -224,13 +264,15 @@ fn is_written<F: Shelf>(shelf: &mut F, name: &str) -> Result<bool, Slip> {
     Ok(true)
 }
 
+// Whether one device takes a file, and another refuses what is appended and then, since that gives it up, its end.
+fn writes_to_devices<F: Shelf>(shelf: &mut F) -> bool {
+    is_written(shelf, "/dev/null") == Ok(true)
+        && is_written(shelf, "/dev/full") == Err(Slip::Failed)
+        && shelf.finish("/dev/full") == Err(Slip::Failed)
+}
+
 #[test]
 fn devices_are_written_straight(rt: HostRuntime) {
     let mut shelf = DirShelf::new(&rt, rt.alloc(), ".");
-    assert!(rt; is_written(&mut shelf, "/dev/null") == Ok(true));
-    assert!(rt; is_written(&mut shelf, "/dev/full") == Err(Slip::Failed));
-    assert!(rt;
-        shelf.finish("/dev/full") == Err(Slip::Failed),
-        "a failed append gives it up"
-    );
+    assert!(rt; writes_to_devices(&mut shelf));
 }

@@ -19,111 +19,143 @@ fn signed(alloc: Global, last: u8) -> Result<Points, NoMemory> {
     Ok(Points::of(Element::I8, 1, bytes))
 }
 
+// Whether points are written as this file.
+fn is_written_as(shelf: &mut SoundShelf, points: &Points, file: &[u8]) -> Result<bool, Slip> {
+    write_points(shelf, "again", points)?;
+    Ok(shelf.bytes("again") == Some(file))
+}
+
+// Whether the four points are read as such, and written back.
+fn reads_four(shelf: &mut SoundShelf, alloc: Global) -> Result<bool, Fail> {
+    shelf.put("four", &FOUR)?;
+    let points = read_points(alloc, shelf, "four")?;
+    let read = points.count() == 4 && points.dim() == 1 && has_point(&points, 2, &[20]);
+    Ok(read && is_written_as(shelf, &points, &FOUR)?)
+}
+
 #[test]
 fn four_points_are_read_and_written_back(rt: HostRuntime) -> Result<(), Fail> {
     let mut shelf = SoundShelf::new(rt.alloc());
-    shelf.put("four", &FOUR)?;
-    let points = read_points(rt.alloc(), &mut shelf, "four")?;
-    assert!(rt; points.count() == 4 && points.dim() == 1);
-    assert!(rt; has_point(&points, 2, &[20]));
-    write_points(&mut shelf, "again", &points)?;
-    assert!(rt; shelf.bytes("again") == Some(FOUR.as_slice()));
+    assert!(rt; reads_four(&mut shelf, rt.alloc())?);
     Ok(())
 }
 
 #[test]
 fn points_are_made_of_bytes(rt: HostRuntime) -> Result<(), Fail> {
     let made = Points::from_bytes(2, [0, 10, 20, 30].to_vec(rt.alloc())?);
-    assert!(rt; made.count() == 2);
-    assert!(rt; has_point(&made, 1, &[20, 30]));
+    assert!(rt; made.count() == 2 && has_point(&made, 1, &[20, 30]));
     Ok(())
+}
+
+// Whether points are signed and the same as others of these bytes but for the last.
+fn is_signed(alloc: Global, points: &Points, last: u8) -> Result<bool, NoMemory> {
+    let others = signed(alloc, last)?;
+    Ok(points.element() == Element::I8 && points.is_same(&others))
+}
+
+// Whether a file of the points -20, -10, 0 and 10 is read as such, and written back.
+fn reads_signed(shelf: &mut SoundShelf, alloc: Global) -> Result<bool, Fail> {
+    let file = [4, 0, 0, 0, 1, 0, 0, 0, 0xec, 0xf6, 0, 10];
+    shelf.put("signed", &file)?;
+    let points = read_points_as(alloc, shelf, "signed", Element::I8)?;
+    Ok(is_signed(alloc, &points, 138)? && is_written_as(shelf, &points, &file)?)
 }
 
 #[test]
 fn signed_points_are_read_and_written_back(rt: HostRuntime) -> Result<(), Fail> {
-    // The points -20, -10, 0 and 10.
-    let file = [4, 0, 0, 0, 1, 0, 0, 0, 0xec, 0xf6, 0, 10];
     let mut shelf = SoundShelf::new(rt.alloc());
-    shelf.put("signed", &file)?;
-    let points = read_points_as(rt.alloc(), &mut shelf, "signed", Element::I8)?;
-    assert!(rt; points.is_same(&signed(rt.alloc(), 138)?));
-    write_points(&mut shelf, "again", &points)?;
-    assert!(rt; shelf.bytes("again") == Some(file.as_slice()));
+    assert!(rt; reads_signed(&mut shelf, rt.alloc())?);
     Ok(())
+}
+
+// Whether points are the same as unsigned ones of the same bytes.
+fn is_same_unsigned(alloc: Global, points: &Points) -> Result<bool, NoMemory> {
+    let unsigned = Points::from_bytes(1, [108, 118, 128, 138].to_vec(alloc)?);
+    Ok(points.is_same(&unsigned))
+}
+
+// Whether points that differ in a number or in the element are told apart.
+fn tells_apart(alloc: Global) -> Result<bool, NoMemory> {
+    let points = signed(alloc, 138)?;
+    Ok(
+        is_signed(alloc, &points, 138)?
+            && !is_signed(alloc, &points, 139)?
+            && !is_same_unsigned(alloc, &points)?,
+    )
 }
 
 #[test]
 fn points_are_the_same_by_element_and_numbers(rt: HostRuntime) -> Result<(), Fail> {
-    let points = signed(rt.alloc(), 138)?;
-    assert!(rt; points.element() == Element::I8);
-    assert!(rt; points.is_same(&signed(rt.alloc(), 138)?));
-    assert!(rt; !points.is_same(&signed(rt.alloc(), 139)?));
-    let unsigned = Points::from_bytes(1, [108, 118, 128, 138].to_vec(rt.alloc())?);
-    assert!(rt; !points.is_same(&unsigned));
+    assert!(rt; tells_apart(rt.alloc())?);
     Ok(())
+}
+
+// Files, and the place and the rule of their first fault.
+const MALFORMED: [(&[u8], u64, PointsRule); 8] = [
+    (&[0, 0, 0, 0, 1, 0, 0, 0], 0, PointsRule::ZeroCount),
+    (&[1, 0, 0, 0, 0, 0, 0, 0], 4, PointsRule::ZeroDim),
+    (&[1, 0, 0, 0, 0, 8, 0, 0, 1], 9, PointsRule::ShortBody),
+    (&[0, 0, 64, 0, 1, 0, 0, 0, 1], 9, PointsRule::ShortBody),
+    (
+        &[4, 0, 0, 0, 2, 0, 0, 0, 1, 2, 3, 4, 5, 6, 7],
+        15,
+        PointsRule::ShortBody,
+    ),
+    // A gigabyte that isn't there: no memory is taken for it.
+    (&[0, 0, 64, 0, 0, 1, 0, 0, 1], 9, PointsRule::ShortBody),
+    (&[0, 0, 64, 0, 0, 1, 0, 0], 8, PointsRule::ShortBody),
+    (
+        &[4, 0, 0, 0, 2, 0, 0, 0, 1, 2, 3, 4, 5, 6, 7, 8, 9],
+        16,
+        PointsRule::Trailing,
+    ),
+];
+
+// Headers with a quantity over its limit.
+const OVER: [([u8; 8], Quantity, u64, u64); 5] = [
+    (
+        [1, 0, 64, 0, 1, 0, 0, 0],
+        Quantity::Count,
+        4_194_305,
+        4_194_304,
+    ),
+    (
+        [255, 255, 255, 255, 255, 255, 255, 255],
+        Quantity::Count,
+        4_294_967_295,
+        4_194_304,
+    ),
+    ([1, 0, 0, 0, 1, 8, 0, 0], Quantity::Dim, 2_049, 2_048),
+    (
+        [1, 0, 0, 0, 255, 255, 255, 255],
+        Quantity::Dim,
+        4_294_967_295,
+        2_048,
+    ),
+    (
+        [0, 0, 64, 0, 1, 1, 0, 0],
+        Quantity::Cells,
+        1_077_936_128,
+        1_073_741_824,
+    ),
+];
+
+// Whether a file of points is refused for this fault.
+fn is_refused(alloc: Global, bytes: &[u8], fault: PointsFault) -> Result<bool, NoMemory> {
+    let mut shelf = MemShelf::new(alloc);
+    shelf.put("points", bytes)?;
+    Ok(read_points(alloc, &mut shelf, "points").err() == Some(fault))
 }
 
 #[test]
 fn a_file_is_judged_by_its_first_broken_rule(rt: HostRuntime) -> Result<(), Fail> {
-    let malformed = |place: u64, rule: PointsRule| PointsFault::Malformed { place, rule };
-    let over = |name: Quantity, value: u64, limit: u64| PointsFault::TooLarge {
-        name,
-        value,
-        limit,
-    };
-    let table: [(&[u8], PointsFault); 13] = [
-        (
-            &[0, 0, 0, 0, 1, 0, 0, 0],
-            malformed(0, PointsRule::ZeroCount),
-        ),
-        (&[1, 0, 0, 0, 0, 0, 0, 0], malformed(4, PointsRule::ZeroDim)),
-        (
-            &[1, 0, 64, 0, 1, 0, 0, 0],
-            over(Quantity::Count, 4194305, 4194304),
-        ),
-        (
-            &[255, 255, 255, 255, 255, 255, 255, 255],
-            over(Quantity::Count, 4294967295, 4194304),
-        ),
-        (&[1, 0, 0, 0, 1, 8, 0, 0], over(Quantity::Dim, 2049, 2048)),
-        (
-            &[1, 0, 0, 0, 255, 255, 255, 255],
-            over(Quantity::Dim, 4294967295, 2048),
-        ),
-        (
-            &[0, 0, 64, 0, 1, 1, 0, 0],
-            over(Quantity::Cells, 1077936128, 1073741824),
-        ),
-        (
-            &[1, 0, 0, 0, 0, 8, 0, 0, 1],
-            malformed(9, PointsRule::ShortBody),
-        ),
-        (
-            &[0, 0, 64, 0, 1, 0, 0, 0, 1],
-            malformed(9, PointsRule::ShortBody),
-        ),
-        (
-            &[4, 0, 0, 0, 2, 0, 0, 0, 1, 2, 3, 4, 5, 6, 7],
-            malformed(15, PointsRule::ShortBody),
-        ),
-        // A gigabyte that isn't there: no memory is taken for it.
-        (
-            &[0, 0, 64, 0, 0, 1, 0, 0, 1],
-            malformed(9, PointsRule::ShortBody),
-        ),
-        (
-            &[0, 0, 64, 0, 0, 1, 0, 0],
-            malformed(8, PointsRule::ShortBody),
-        ),
-        (
-            &[4, 0, 0, 0, 2, 0, 0, 0, 1, 2, 3, 4, 5, 6, 7, 8, 9],
-            malformed(16, PointsRule::Trailing),
-        ),
-    ];
-    for (bytes, fault) in table {
-        let mut shelf = MemShelf::new(rt.alloc());
-        shelf.put("points", bytes)?;
-        assert!(rt; read_points(rt.alloc(), &mut shelf, "points").err() == Some(fault));
+    for (bytes, place, rule) in MALFORMED {
+        let fault = PointsFault::Malformed { place, rule };
+        assert!(rt; is_refused(rt.alloc(), bytes, fault)?);
+    }
+    for (bytes, name, value, limit) in OVER {
+        let fault = PointsFault::TooLarge { name, value, limit };
+        assert!(rt; is_refused(rt.alloc(), &bytes, fault)?);
     }
     Ok(())
 }
@@ -131,8 +163,6 @@ fn a_file_is_judged_by_its_first_broken_rule(rt: HostRuntime) -> Result<(), Fail
 #[test]
 fn each_cut_of_points_is_refused_where_it_ends(rt: HostRuntime) -> Result<(), Fail> {
     for cut in 0..FOUR.len() {
-        let mut shelf = MemShelf::new(rt.alloc());
-        shelf.put("points", &FOUR[..cut])?;
         let rule = if cut < 8 {
             PointsRule::ShortHeader
         } else {
@@ -142,7 +172,7 @@ fn each_cut_of_points_is_refused_where_it_ends(rt: HostRuntime) -> Result<(), Fa
             place: cut as u64,
             rule,
         };
-        assert!(rt; read_points(rt.alloc(), &mut shelf, "points").err() == Some(fault));
+        assert!(rt; is_refused(rt.alloc(), &FOUR[..cut], fault)?);
     }
     Ok(())
 }
