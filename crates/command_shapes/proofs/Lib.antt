@@ -1,5 +1,6 @@
 pub mod Told
 pub mod Refusals
+pub mod PrintingFaults
 pub mod ReadFacts
 pub mod Ending
 pub mod Completing

@@ -8,12 +8,13 @@ use Rattle.std.proofs.Math.Seq.{take-append-add}
 use Rattle.ann_shelf.specs.Faults.{Rose}
 use Rattle.ann_shelf.specs.Written.{GotSome}
 use Rattle.annbuild_lines.specs.declared.fault.Fault.{Fault}
-use Rattle.annbuild_lines.specs.declared.fault.Fault.TheVariants.{Usage, Setting, Read, Malformed, Unfit, Write, NoMemory, TooLarge}
-use Rattle.command_options.specs.declared.role.Role.TheVariants.{Base, Index, Queries, Output, Gone, Fresh, Labels}
+use Rattle.annbuild_lines.specs.declared.fault.Fault.TheVariants.{Write, NoMemory}
+use Rattle.command_options.specs.declared.role.Role.TheVariants.{Output}
 use Rattle.bin_files.proofs.Pieces.{told_then}
 use Rattle.ann_shelf.specs.Written.{Got}
 use Rattle.command_shapes.specs.Clauses.{GotPieces}
 use Rattle.command_shapes.specs.Writing.{IsOfPrinting, LeavesPieces, Printed}
+use Rattle.command_shapes.proofs.PrintingFaults.{after_printing}
 use Rattle.command_shapes.proofs.Told.{told_here, rose_later}
 
 -- a part of a text that follows one is a part of both and what comes after
@@ -66,36 +67,13 @@ memory_middle wants more before after ps qs rs m some h = elim h as (λ _. Leave
 
 leaves_middle : (wants more : Type 0) (before after : List ℕ) (ps qs rs : List (List ℕ)) (fault : Fault) → (wants → more) → 1 ≤ length qs
     → LeavesPieces wants (before ++ concat ps) after qs fault → LeavesPieces more before after (ps ++ (qs ++ rs)) fault
-leaves_middle wants more before after ps qs rs Usage m some h = absurd h
-leaves_middle wants more before after ps qs rs (Setting n v l g) m some h = absurd h
-leaves_middle wants more before after ps qs rs (Read role) m some h = absurd h
-leaves_middle wants more before after ps qs rs (Malformed role place rule) m some h = absurd h
-leaves_middle wants more before after ps qs rs (Unfit role what found wanted) m some h = absurd h
-leaves_middle wants more before after ps qs rs (Write Base) m some h = absurd h
-leaves_middle wants more before after ps qs rs (Write Index) m some h = absurd h
-leaves_middle wants more before after ps qs rs (Write Queries) m some h = absurd h
-leaves_middle wants more before after ps qs rs (Write Gone) m some h = absurd h
-leaves_middle wants more before after ps qs rs (Write Fresh) m some h = absurd h
-leaves_middle wants more before after ps qs rs (Write Labels) m some h = absurd h
-leaves_middle wants more before after ps qs rs (Write Output) m some h = got_middle before after ps qs rs h
-leaves_middle wants more before after ps qs rs NoMemory m some h = memory_middle wants more before after ps qs rs m some h
-leaves_middle wants more before after ps qs rs (TooLarge n v l) m some h = absurd h
+leaves_middle wants more before after ps qs rs fault m some h =
+    after_printing (LeavesPieces more before after (ps ++ (qs ++ rs)) (Write Output)) (LeavesPieces more before after (ps ++ (qs ++ rs)) NoMemory)
+    (LeavesPieces wants (before ++ concat ps) after qs (Write Output)) (LeavesPieces wants (before ++ concat ps) after qs NoMemory) fault
+    (λ got. got_middle before after ps qs rs got) (λ l. memory_middle wants more before after ps qs rs m some l) h
 
 cause_middle : (outs more : Type 0) (fault : Fault) → (outs → more) → IsOfPrinting outs fault → IsOfPrinting more fault
-cause_middle outs more Usage m h = h
-cause_middle outs more (Setting n v l g) m h = h
-cause_middle outs more (Read role) m h = h
-cause_middle outs more (Malformed role place rule) m h = h
-cause_middle outs more (Unfit role what found wanted) m h = h
-cause_middle outs more (Write Base) m h = h
-cause_middle outs more (Write Index) m h = h
-cause_middle outs more (Write Queries) m h = h
-cause_middle outs more (Write Gone) m h = h
-cause_middle outs more (Write Fresh) m h = h
-cause_middle outs more (Write Labels) m h = h
-cause_middle outs more (Write Output) m h = m h
-cause_middle outs more NoMemory m h = tt
-cause_middle outs more (TooLarge n v l) m h = h
+cause_middle outs more fault m h = after_printing more (Unit {0}) outs (Unit {0}) fault m (λ u. u) h
 
 told_on : {A B : Type 0} (f : A → B) (Q : B → Type 0) (o : Option A) (p : Option B) → IfSome o (λ x. p ≡ Some (f x)) → IfSome p Q → IfSome o (λ x. Q (f x))
 told_on f Q None p told q = tt

@@ -1,14 +1,17 @@
 -- Reading files in their order: what is known behind some reads, and a fault at the next one.
-use Rattle.std.proofs.Common.{◌≡◌, ◌∙◌, ◌≤◌, ℕ, List, [], ◌∷◌, ◌++◌, refl, ap, arith, inl, inr, Option, Some, None}
+use Rattle.std.proofs.Common.{◌≡◌, ◌∙◌, ◌≤◌, ℕ, List, [], ◌∷◌, ◌++◌, refl, sym, ap, subst, arith, inl, inr, Option, Some, None, IfSome}
 use Rattle.std.specs.Option.{option_or}
+use Rattle.ann_shelf.specs.Faults.{Rose}
 use Rattle.ann_shelf.specs.Files.{Files}
 use Rattle.annbuild_lines.specs.declared.fault.Fault.{Fault}
 use Rattle.command_options.specs.declared.role.Role.{Role}
-use Rattle.bin_files.proofs.Pieces.{both_told}
-use Rattle.ann_shelf.specs.Shown.{Shown}
+use Rattle.bin_files.proofs.Pieces.{both_told, told_then}
+use Rattle.ann_shelf.specs.Shown.{Shown, OnlyReads}
 use Rattle.command_shapes.specs.Doing.{Reads, first_refused}
 use Rattle.command_shapes.specs.Clauses.{IsReached, IsReadOf}
-use Rattle.command_shapes.specs.Ends.{OnlyRead, HaveRead}
+use Rattle.command_shapes.specs.Ends.{OnlyRead, HaveRead, FailedRead}
+use Rattle.command_shapes.specs.Reading.{IsOfReading, IsReadFault}
+use Rattle.command_shapes.proofs.Refusals.{alone}
 use Rattle.command_shapes.proofs.Told.{told_here}
 
 -- neither of two refusals
@@ -60,3 +63,18 @@ none_read old = record {
   only = record { held = refl; reads = λ name. omega arith; writes = λ name. omega arith };
   accepted = told_here old.held (λ files e. refl);
 }
+
+only_read : (old new : Shown) (name : List ℕ) (failed : Type 0) → OnlyReads old new name failed → OnlyRead old new
+only_read old new name failed o = record { held = o.held; reads = o.reads; writes = o.writes }
+
+-- a read of one file that is done, and that the file's bytes don't refuse
+pub one_read : (r : Reads) (old new : Shown) (failed : Type 0) → OnlyReads old new r.name failed → IfSome old.held (λ files. r.refused files ≡ None) → HaveRead (r ∷ []) old new
+one_read r old new failed o accepted = record {
+  only = only_read old new r.name failed o;
+  accepted = told_then old.held accepted (λ files e. alone r files e);
+}
+
+-- a read of one file that failed, with the reader's fault as this one of the program
+pub one_failed : (r : Reads) (old new : Shown) (failed : Type 0) (fault told : Fault) → told ≡ fault → OnlyReads old new r.name failed
+    → IfSome old.held (λ files. IsOfReading (r.refused files) r.role fault) → IsReadFault r.role (Rose (old.read_faults r.name) (new.read_faults r.name)) fault → FailedRead r old new told
+one_failed r old new failed fault told same o refused cause = subst (FailedRead r old new) (sym same) (record { only = only_read old new r.name failed o; refused = refused; cause = cause })

@@ -6,14 +6,15 @@ use Rattle.std.proofs.lemmas.List.Folds.{concat-append}
 use Rattle.ann_shelf.specs.Faults.{Rose}
 use Rattle.ann_shelf.specs.Written.{Got, GotSome}
 use Rattle.annbuild_lines.specs.declared.fault.Fault.{Fault}
-use Rattle.annbuild_lines.specs.declared.fault.Fault.TheVariants.{Usage, Setting, Read, Malformed, Unfit, Write, NoMemory, TooLarge}
-use Rattle.command_options.specs.declared.role.Role.TheVariants.{Base, Index, Queries, Output, Gone, Fresh, Labels}
+use Rattle.annbuild_lines.specs.declared.fault.Fault.TheVariants.{Write, NoMemory}
+use Rattle.command_options.specs.declared.role.Role.TheVariants.{Output}
 use Rattle.command_shapes.specs.AnswerLines.{numbered_lines}
 use Rattle.command_shapes.specs.Clauses.{GotPieces}
 use Rattle.command_shapes.specs.Ends.{fault_in}
 use Rattle.command_shapes.specs.Writing.{LeavesPieces, Printed}
 use Rattle.command_shapes.specs.Waiting.{WaitIn}
 use Rattle.command_shapes.proofs.LineLists.{no_lines}
+use Rattle.command_shapes.proofs.PrintingFaults.{after_printing}
 use Rattle.command_shapes.proofs.Told.{told_with}
 use Rattle.command_shapes.proofs.Pieces.{none_printed, both_printed, failed_printing}
 
@@ -48,20 +49,10 @@ memory_regrouped wants piece lines old new same h = elim h as (λ _. LeavesPiece
 
 leaves_regrouped : (wants : Type 0) (piece : List ℕ) (lines : List (List ℕ)) (old new : List ℕ) (fault : Fault) → concat (piece ∷ []) ≡ concat lines
     → LeavesPieces wants old new (piece ∷ []) fault → LeavesPieces wants old new lines fault
-leaves_regrouped wants piece lines old new Usage same h = absurd h
-leaves_regrouped wants piece lines old new (Setting n v l g) same h = absurd h
-leaves_regrouped wants piece lines old new (Read role) same h = absurd h
-leaves_regrouped wants piece lines old new (Malformed role place rule) same h = absurd h
-leaves_regrouped wants piece lines old new (Unfit role what found wanted) same h = absurd h
-leaves_regrouped wants piece lines old new (Write Base) same h = absurd h
-leaves_regrouped wants piece lines old new (Write Index) same h = absurd h
-leaves_regrouped wants piece lines old new (Write Queries) same h = absurd h
-leaves_regrouped wants piece lines old new (Write Gone) same h = absurd h
-leaves_regrouped wants piece lines old new (Write Fresh) same h = absurd h
-leaves_regrouped wants piece lines old new (Write Labels) same h = absurd h
-leaves_regrouped wants piece lines old new (Write Output) same h = subst (GotSome old new) same h
-leaves_regrouped wants piece lines old new NoMemory same h = memory_regrouped wants piece lines old new same h
-leaves_regrouped wants piece lines old new (TooLarge n v l) same h = absurd h
+leaves_regrouped wants piece lines old new fault same h =
+    after_printing (LeavesPieces wants old new lines (Write Output)) (LeavesPieces wants old new lines NoMemory)
+    (LeavesPieces wants old new (piece ∷ []) (Write Output)) (LeavesPieces wants old new (piece ∷ []) NoMemory) fault
+    (λ got. subst (GotSome old new) same got) (λ l. memory_regrouped wants piece lines old new same l) h
 
 -- a fault at a piece is a fault at the lines that it holds
 fault_regrouped : (piece : List ℕ) (lines : List (List ℕ)) (had got : Got) (fault : Fault) → concat (piece ∷ []) ≡ concat lines

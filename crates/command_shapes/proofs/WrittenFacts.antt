@@ -6,7 +6,7 @@ use Rattle.ann_shelf.specs.declared.slip.Slip.TheVariants.{Failed, NoMemory as N
 use Rattle.ann_shelf.specs.Faults.{Rose}
 use Rattle.ann_shelf.specs.Files.{Files}
 use Rattle.annbuild_lines.specs.declared.fault.Fault.{Fault}
-use Rattle.annbuild_lines.specs.declared.fault.Fault.TheVariants.{Usage, Setting, Read, Malformed, Unfit, Write, NoMemory, TooLarge}
+use Rattle.annbuild_lines.specs.declared.fault.Fault.TheVariants.{Write, NoMemory}
 use Rattle.command_options.specs.declared.role.Role.{Role}
 use Rattle.command_options.specs.declared.role.Role.TheVariants.{Base, Index, Queries, Output, Gone, Fresh, Labels}
 use Rattle.bin_files.proofs.Pieces.{told_then}
@@ -17,6 +17,7 @@ use Rattle.command_shapes.specs.Clauses.{IsToldBy, HasCauseOf, LeavesOf, LeavesO
 use Rattle.command_shapes.specs.Faults.{write_fault_of}
 use Rattle.command_shapes.specs.Ends.{Ends}
 use Rattle.command_shapes.specs.Writing.{writing, writing_runs, stored_as, IsFile, IsOfPrinting, LeavesPieces, Printed}
+use Rattle.command_shapes.proofs.PrintingFaults.{by_printing}
 use Rattle.command_shapes.proofs.Told.{told_here}
 
 -- one run that may be, and its pieces
@@ -25,73 +26,31 @@ module _ (s : Option Stored) (lawful : List ℕ → Bool) (runs : List ℕ → L
   doing = writing_runs s lawful runs
 
   print_tells : (outs : Type 0) (files : Files) (fault : Fault) → IsOfPrinting outs fault → IsToldBy doing files fault
-  print_tells outs files Usage h = h
-  print_tells outs files (Setting n v l g) h = h
-  print_tells outs files (Read role) h = h
-  print_tells outs files (Malformed role place rule) h = absurd h
-  print_tells outs files (Unfit role what found wanted) h = absurd h
-  print_tells outs files (Write role) h = refl
-  print_tells outs files NoMemory h = tt
-  print_tells outs files (TooLarge n v l) h = absurd h
+  print_tells outs files fault h = by_printing (IsToldBy doing files) outs (Unit {0}) fault (λ o. refl) (λ u. u) h
 
   print_cause : (reads writes : List ℕ → Type 0) (outs : Type 0) (fault : Fault) → IsOfPrinting outs fault → HasCauseOf doing reads writes outs fault
-  print_cause reads writes outs Usage h = h
-  print_cause reads writes outs (Setting n v l g) h = h
-  print_cause reads writes outs (Read role) h = h
-  print_cause reads writes outs (Malformed role place rule) h = tt
-  print_cause reads writes outs (Unfit role what found wanted) h = tt
-  print_cause reads writes outs (Write Base) h = absurd h
-  print_cause reads writes outs (Write Index) h = absurd h
-  print_cause reads writes outs (Write Queries) h = absurd h
-  print_cause reads writes outs (Write Gone) h = absurd h
-  print_cause reads writes outs (Write Fresh) h = absurd h
-  print_cause reads writes outs (Write Labels) h = absurd h
-  print_cause reads writes outs (Write Output) h = inl (refl, h)
-  print_cause reads writes outs NoMemory h = tt
-  print_cause reads writes outs (TooLarge n v l) h = tt
+  print_cause reads writes outs fault h = by_printing (HasCauseOf doing reads writes outs) outs (Unit {0}) fault (λ o. inl (refl, o)) (λ u. u) h
+
+  memory_leaves : (wants : Type 0) (files : Files) → (files_with s files ≡ files) ⊎ wants → LeavesOf doing wants files (files_with s files) NoMemory
+  memory_leaves wants files m = elim m as (λ _. LeavesOf doing wants files (files_with s files) NoMemory) [ inl e ↦ inl e | inr w ↦ inr (w, refl) ]
 
   print_leaves : (outs wants : Type 0) (files : Files) (fault : Fault) → IsOfPrinting outs fault → (fault ≡ NoMemory → (files_with s files ≡ files) ⊎ wants)
       → LeavesOf doing wants files (files_with s files) fault
-  print_leaves outs wants files Usage h m = absurd h
-  print_leaves outs wants files (Setting n v l g) h m = absurd h
-  print_leaves outs wants files (Read role) h m = absurd h
-  print_leaves outs wants files (Malformed role place rule) h m = absurd h
-  print_leaves outs wants files (Unfit role what found wanted) h m = absurd h
-  print_leaves outs wants files (Write Base) h m = absurd h
-  print_leaves outs wants files (Write Index) h m = absurd h
-  print_leaves outs wants files (Write Queries) h m = absurd h
-  print_leaves outs wants files (Write Gone) h m = absurd h
-  print_leaves outs wants files (Write Fresh) h m = absurd h
-  print_leaves outs wants files (Write Labels) h m = absurd h
-  print_leaves outs wants files (Write Output) h m = refl
-  print_leaves outs wants files NoMemory h m = elim (m refl) as (λ _. LeavesOf doing wants files (files_with s files) NoMemory) [ inl e ↦ inl e | inr w ↦ inr (w, refl) ]
-  print_leaves outs wants files (TooLarge n v l) h m = absurd h
+  print_leaves outs wants files fault h m =
+      by_printing (λ f. (f ≡ NoMemory → (files_with s files ≡ files) ⊎ wants) → LeavesOf doing wants files (files_with s files) f) outs (Unit {0}) fault
+      (λ o n. refl) (λ u n. memory_leaves wants files (n refl)) h m
+
+  memory_out : (wants : Type 0) (files : Files) (before after : List ℕ) → LeavesPieces wants before after (runs run) NoMemory → LeavesOutOf doing wants files before after NoMemory
+  memory_out wants files before after h = elim h as (λ _. LeavesOutOf doing wants files before after NoMemory) [ inl e ↦ inl e | inr got ↦ inr (run, may, got) ]
 
   print_out : (wants : Type 0) (files : Files) (before after : List ℕ) (fault : Fault) → LeavesPieces wants before after (runs run) fault → LeavesOutOf doing wants files before after fault
-  print_out wants files before after Usage h = absurd h
-  print_out wants files before after (Setting n v l g) h = absurd h
-  print_out wants files before after (Read role) h = absurd h
-  print_out wants files before after (Malformed role place rule) h = absurd h
-  print_out wants files before after (Unfit role what found wanted) h = absurd h
-  print_out wants files before after (Write Base) h = absurd h
-  print_out wants files before after (Write Index) h = absurd h
-  print_out wants files before after (Write Queries) h = absurd h
-  print_out wants files before after (Write Gone) h = absurd h
-  print_out wants files before after (Write Fresh) h = absurd h
-  print_out wants files before after (Write Labels) h = absurd h
-  print_out wants files before after (Write Output) h = (run, may, h)
-  print_out wants files before after NoMemory h = elim h as (λ _. LeavesOutOf doing wants files before after NoMemory) [ inl e ↦ inl e | inr got ↦ inr (run, may, got) ]
-  print_out wants files before after (TooLarge n v l) h = absurd h
+  print_out wants files before after fault h =
+      by_printing (LeavesOutOf doing wants files before after)
+      (LeavesPieces wants before after (runs run) (Write Output)) (LeavesPieces wants before after (runs run) NoMemory) fault
+      (λ got. (run, may, got)) (λ l. memory_out wants files before after l) h
 
   print_late : (outs : Type 0) (fault : Fault) → IsOfPrinting outs fault → IsBeforeWriting fault → ⊥
-  print_late outs Usage h b = h
-  print_late outs (Setting n v l g) h b = h
-  print_late outs (Read role) h b = h
-  print_late outs (Malformed role place rule) h b = h
-  print_late outs (Unfit role what found wanted) h b = h
-  print_late outs (Write role) h b = b
-  print_late outs NoMemory h b = b
-  print_late outs (TooLarge n v l) h b = h
+  print_late outs fault h b = by_printing (λ f. IsBeforeWriting f → ⊥) outs (Unit {0}) fault (λ o n. n) (λ u n. n) h b
 
   -- printing, once the file that is stored is whole: where there is one, only the output itself wants memory
   pub then_run_printed : (old new : Shown) (had got : Got) (fault : Option Fault) → IfSome old.held (λ files. new.held ≡ Some (files_with s files))

@@ -6,3 +6,4 @@ pub mod Ends
 pub mod Writing
 pub mod AnswerLines
 pub mod Waiting
+pub mod Rooms

@@ -35,17 +35,19 @@ abbrev pub IsFile : Role → Type 0
 IsFile Output = ⊥
 IsFile role = Unit {0}
 
+-- what there is after a fault of printing: this after a failed write of the output, that after want of memory
+abbrev pub AfterPrinting : (failed memory : Type 0) → Fault → Type 0
+AfterPrinting failed memory (Write Output) = failed
+AfterPrinting failed memory NoMemory = memory
+AfterPrinting failed memory fault = ⊥
+
 -- a fault of printing
 abbrev pub IsOfPrinting : (outs : Type 0) → Fault → Type 0
-IsOfPrinting outs (Write Output) = outs
-IsOfPrinting outs NoMemory = Unit {0}
-IsOfPrinting outs fault = ⊥
+IsOfPrinting outs = AfterPrinting outs (Unit {0})
 
 -- what the output got of pieces after a fault of printing them
 abbrev pub LeavesPieces : (wants : Type 0) → List ℕ → List ℕ → List (List ℕ) → Fault → Type 0
-LeavesPieces wants old new pieces (Write Output) = GotSome old new (concat pieces)
-LeavesPieces wants old new pieces NoMemory = (new ≡ old) ⊎ GotBeforeMemory wants old new pieces
-LeavesPieces wants old new pieces fault = ⊥
+LeavesPieces wants old new pieces = AfterPrinting (GotSome old new (concat pieces)) ((new ≡ old) ⊎ GotBeforeMemory wants old new pieces)
 
 -- how printing these pieces ends
 pub record Printed (pieces : List (List ℕ)) (had got : Got) (fault : Option Fault) : Type 0 where

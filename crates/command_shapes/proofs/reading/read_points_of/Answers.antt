@@ -1,11 +1,10 @@
-use Rattle.std.proofs.Common.{refl, sym, subst, ap}
+use Rattle.std.proofs.Common.{refl, ap}
 use Rattle.std.specs.Prelude.{Err}
 use Rattle.bin_files.proofs.Pieces.{told_then, both_told}
 use Rattle.ann_shelf.specs.Files.{bytes_of}
-use Rattle.ann_shelf.specs.Faults.{Rose}
-use Rattle.command_shapes.specs.Faults.{points_refusal}
-use Rattle.command_shapes.specs.Reading.{IsOfReading, IsReadFault, points_read}
-use Rattle.command_shapes.proofs.Refusals.{alone, points_accepted, points_reading, points_cause}
+use Rattle.command_shapes.specs.Reading.{points_read}
+use Rattle.command_shapes.proofs.Refusals.{points_accepted, points_reading, points_cause}
+use Rattle.command_shapes.proofs.ReadFacts.{one_read, one_failed}
 use Rattle.command_shapes.proofs.reading.read_points_of.Goals as goal
 
 pub returns-in-Ok-clause-points : goal.returns-in-Ok-clause-points
@@ -18,17 +17,10 @@ returns-in-Ok-clause-points g c =
     })
 
 pub returns-in-Ok-clause-read : goal.returns-in-Ok-clause-read
-returns-in-Ok-clause-read g c = record {
-  only = record { held = c.in-Ok.ensures.only_reads.held; reads = c.in-Ok.ensures.only_reads.reads; writes = c.in-Ok.ensures.only_reads.writes };
-  accepted = told_then (g.F.Shelf.shown c.args.shelf.now).held c.in-Ok.ensures.verdict (λ files judged.
-      alone (points_read c.args.role c.args.name.now) files (points_accepted c.args.role (bytes_of files c.args.name.now) judged.0));
-}
+returns-in-Ok-clause-read g c = one_read (points_read c.args.role c.args.name.now) _ _ _ c.in-Ok.ensures.only_reads
+    (told_then (g.F.Shelf.shown c.args.shelf.now).held c.in-Ok.ensures.verdict (λ files judged. points_accepted c.args.role (bytes_of files c.args.name.now) judged.0))
 
 pub returns-in-Err-clause-failed : goal.returns-in-Err-clause-failed
-returns-in-Err-clause-failed g c = record {
-  only = record { held = c.in-Err.ensures.only_reads.held; reads = c.in-Err.ensures.only_reads.reads; writes = c.in-Err.ensures.only_reads.writes };
-  refused = told_then (g.F.Shelf.shown c.args.shelf.now).held c.in-Err.ensures.verdict (λ files judged.
-      subst (IsOfReading (points_refusal c.args.role (bytes_of files c.args.name.now)) c.args.role) (sym c.points_fault.ensures) (points_reading c.args.role (bytes_of files c.args.name.now) c.in-Err.fault judged));
-  cause = subst (IsReadFault c.args.role (Rose ((g.F.Shelf.shown c.args.shelf.now).read_faults c.args.name.now) ((g.F.Shelf.shown c.read_points_as.new.shelf).read_faults c.args.name.now))) (sym c.points_fault.ensures)
-      (points_cause c.args.role _ c.in-Err.fault (λ e. c.in-Err.ensures.only_reads.cause (ap Err e)));
-}
+returns-in-Err-clause-failed g c = one_failed (points_read c.args.role c.args.name.now) _ _ _ _ _ c.points_fault.ensures c.in-Err.ensures.only_reads
+    (told_then (g.F.Shelf.shown c.args.shelf.now).held c.in-Err.ensures.verdict (λ files judged. points_reading c.args.role (bytes_of files c.args.name.now) c.in-Err.fault judged))
+    (points_cause c.args.role _ c.in-Err.fault (λ e. c.in-Err.ensures.only_reads.cause (ap Err e)))

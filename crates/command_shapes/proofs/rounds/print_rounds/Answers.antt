@@ -1,4 +1,4 @@
-use Rattle.std.proofs.Common.{◌∙◌, ◌<◌, ◌+◌, ◌++◌, sym, subst, refl, arith, length, [], None}
+use Rattle.std.proofs.Common.{◌∙◌, ◌<◌, ◌+◌, ◌++◌, sym, subst, arith, length, [], None}
 use Rattle.std.specs.Prelude.{take, drop}
 use Rattle.std.proofs.lemmas.List.{take_all}
 use Rattle.batch_search.specs.Answers.{round_size, round_of}
@@ -16,7 +16,7 @@ loop-from-init g c = record {
   printed = subst (λ ps. Printed ps (g.O.Out.got c.args.out.now) (g.O.Out.got c.args.out.now) None) (sym (no_lines answer_line [] 0)) (none_printed (g.O.Out.got c.args.out.now));
   posts = c.requires.posts;
   serve = c.requires.serve;
-  capacity = refl;
+  rooms = c.requires.rooms;
 }
 
 pub print_next-requires-clause-posts : goal.print_next-requires-clause-posts
@@ -25,8 +25,8 @@ print_next-requires-clause-posts g c κs within = c.loop-from.invariant.posts
 pub print_next-requires-clause-serve : goal.print_next-requires-clause-serve
 print_next-requires-clause-serve g c κs within = c.loop-from.invariant.serve
 
-pub print_next-requires-clause-room : goal.print_next-requires-clause-room
-print_next-requires-clause-room g c κs within = omega (arith, c.requires.room, c.loop-from.auto.nears, c.loop-from.invariant.capacity)
+pub print_next-requires-clause-rooms : goal.print_next-requires-clause-rooms
+print_next-requires-clause-rooms g c κs within = c.loop-from.invariant.rooms
 
 pub returns-in_err-from : goal.returns-in_err-from
 returns-in_err-from g c =
@@ -46,7 +46,7 @@ loop-from-preserved g c =
           (both_printed (lines_from 0 (take c.loop-from.from (g.A.Answering.answers c.args.batch.now))) (lines_from c.loop-from.from (round_of (g.A.Answering.answers c.args.batch.now) c.loop-from.from)) (g.O.Out.got c.args.out.now) (g.O.Out.got c.loop-from.out) (g.O.Out.got c.print_next.new.out) c.loop-from.invariant.printed c.in_ok-from.ensures.printed);
       posts = c.print_next.auto.posts ∙ c.loop-from.invariant.posts ∙ sym c.in_ok-from.ensures.workers;
       serve = c.in_ok-from.ensures.serve;
-      capacity = c.in_ok-from.ensures.capacity ∙ c.loop-from.invariant.capacity;
+      rooms = c.in_ok-from.ensures.rooms;
     }
 
 pub returns : goal.returns
