@@ -3,7 +3,7 @@ ghost use Rattle.std.specs.Prelude.{◌≡◌, Some};
 ghost use Rattle.annbuild_lines.specs.Codes.{code_of};
 
 use crate::rules::{GoneRule, LabelRule};
-use ann_shelf::Quantity;
+use ann_shelf::{NoMemory, Quantity};
 use bin_files::PointsRule;
 use command_options::{Role, SettingName};
 use graph_files::IndexRule;
@@ -69,6 +69,17 @@ pub enum Fault {
         value: u64,
         limit: u64,
     },
+}
+
+impl From<NoMemory> for Fault {
+    ghost use Rattle.std.specs.Prelude.{◌≡◌};
+    ghost use Rattle.annbuild_lines.specs.declared.fault.Fault.TheVariants.{NoMemory};
+
+    ghost from_gives = { λ _ fault. fault ≡ NoMemory };
+
+    fn from(_error: NoMemory) -> Fault {
+        Fault::NoMemory
+    }
 }
 
 /// How a call ended: the code that the program ends with, and the fault where it isn't 0.

@@ -1,5 +1,5 @@
 -- Pieces that are printed one after another.
-use Rattle.std.proofs.Common.{◌≡◌, ◌∙◌, ◌+◌, ◌≤◌, ◌<◌, ℕ, List, [], ◌++◌, take, length, refl, sym, ap, subst, arith, inl, inr, append_assoc, Option, Some, None, IfSome, true, false, nat_le}
+use Rattle.std.proofs.Common.{◌≡◌, ◌∙◌, ◌+◌, ◌≤◌, ◌<◌, ℕ, List, [], ◌++◌, take, length, refl, sym, ap, subst, arith, inl, inr, append_assoc, Option, Some, None, IfSome, true, false, nat_le, Result, IsErrAnd}
 use Rattle.std.specs.List.{concat}
 use Rattle.std.proofs.lemmas.Bool.{leb-true, leb-false}
 use Rattle.std.proofs.lemmas.List.{append-nil, take_all, length-append, take-append-le}
@@ -13,9 +13,10 @@ use Rattle.command_options.specs.declared.role.Role.TheVariants.{Output}
 use Rattle.bin_files.proofs.Pieces.{told_then}
 use Rattle.ann_shelf.specs.Written.{Got}
 use Rattle.command_shapes.specs.Clauses.{GotPieces}
+use Rattle.command_shapes.specs.Ends.{fault_in}
 use Rattle.command_shapes.specs.Writing.{IsOfPrinting, LeavesPieces, Printed}
 use Rattle.command_shapes.proofs.PrintingFaults.{after_printing}
-use Rattle.command_shapes.proofs.Told.{told_here, rose_later}
+use Rattle.command_shapes.proofs.Told.{told_here, rose_later, fault_passed}
 
 -- a part of a text that follows one is a part of both and what comes after
 got_upto : (before p q r after : List ℕ) (k : ℕ) → k ≤ length q → after ≡ (before ++ p) ++ take k q → GotSome before after (p ++ (q ++ r))
@@ -131,3 +132,7 @@ no_memory_printing pieces had = record {
   faults = omega arith;
   wants = omega arith;
 }
+
+-- the same where it is passed on
+pub memory_passed : {T : Type 0} (r : Result T Fault) (pieces : List (List ℕ)) (had : Got) → IsErrAnd r (λ f. f ≡ NoMemory) → Printed pieces had had (fault_in r)
+memory_passed r pieces had is = subst (Printed pieces had had) (fault_passed r NoMemory is) (no_memory_printing pieces had)

@@ -47,10 +47,7 @@ fn print_next<R: Threads + Sync, P: Rounds, A: Answering, O: Out, G: Gate + Sync
     ensures rooms { AreFor (A.longest batch.now) rooms.new }
 {
     let left = batch.count() - from;
-    let answers = match answer_round(rt, alloc, pool, batch, from, posts, gate) {
-        Ok(answers) => answers,
-        Err(NoMemory) => return Err(Fault::NoMemory),
-    };
+    let answers = answer_round(rt, alloc, pool, batch, from, posts, gate)?;
     print_answers(&answers, from, &mut rooms.nears, &mut rooms.buffer, out)?;
     Ok(from + MAX_TASKS.min(left))
 }
@@ -106,9 +103,6 @@ pub fn answer_and_print<R: Threads + Sync, P: Rounds, A: Answering, O: Out, G: G
     requires serve { AllServe (A.serves batch.now) posts.old }
     ensures { Printed (lines_from 0 (A.answers batch.now)) (O.got out.old) (O.got out.new) (fault_in result) }
 {
-    let mut rooms = match rooms_for(alloc, batch) {
-        Ok(rooms) => rooms,
-        Err(NoMemory) => return Err(Fault::NoMemory),
-    };
+    let mut rooms = rooms_for(alloc, batch)?;
     print_rounds(rt, alloc, batch, pool, posts, &mut rooms, out, gate)
 }
