@@ -1,10 +1,8 @@
 -- The builders' indexes are those that settings ask for.
-use Rattle.std.proofs.Common.{◌≡◌, ℕ, List, length, refl, sym, ap, ◌∙◌, Result, IfOk}
-use Rattle.std.proofs.lemmas.Result.{IfOk-weaker}
+use Rattle.std.proofs.Common.{◌≡◌, ℕ, List, length, refl, sym, ap, subst, Result, IfOk}
 use Rattle.ann_defs.specs.Distance.{PointSet}
 use Rattle.ann_defs.specs.declared.kinds.Kind.{Kind}
 use Rattle.ann_defs.specs.declared.kinds.Kind.TheVariants.{Vamana, Hnsw, Nnd}
-use Rattle.graph_rows.specs.Index.{Contents}
 use Rattle.graph_rows.specs.View.{contents, kind_code}
 use Rattle.graph_rows.specs.declared.index.Index.{Index}
 use Rattle.annbuild_lines.specs.declared.fault.Fault.{Fault}
@@ -68,10 +66,6 @@ code_is Vamana X o = vamana_code X o
 code_is Hnsw X o = hnsw_code X o
 code_is Nnd X o = nnd_code X o
 
--- what the builder of a kind gives, where settings ask for that kind: their index but for its stamp, with their kind's code
-module _ (r : Result Index Fault) (X : PointSet) (o : Settings) (k : Kind) (is : o.kind ≡ k) (built : IfOk r (λ i. contents i ≡ index_by k X.vectors o)) where
-  pub built_is : IfOk r (λ i. contents i ≡ index_by o.kind X.vectors o)
-  built_is = IfOk-weaker r (λ i. contents i ≡ index_by k X.vectors o) (λ i. contents i ≡ index_by o.kind X.vectors o) (λ i e. e ∙ index_is X o k is) built
-
-  pub built_kind : IfOk r (λ i. kind_code i.kind ≡ kind_code o.kind)
-  built_kind = IfOk-weaker r (λ i. contents i ≡ index_by k X.vectors o) (λ i. kind_code i.kind ≡ kind_code o.kind) (λ i e. ap (λ (j : Contents). j.kind) e ∙ code_is k X.vectors o ∙ ap kind_code (sym is)) built
+-- what the builder of a kind gives, where settings ask for that kind: their index but for its stamp
+pub built_is : (r : Result Index Fault) (X : PointSet) (o : Settings) (k : Kind) → o.kind ≡ k → IfOk r (λ i. contents i ≡ index_by k X.vectors o) → IfOk r (λ i. contents i ≡ index_by o.kind X.vectors o)
+built_is r X o k is built = subst (λ j. IfOk r (λ i. contents i ≡ index_by j X.vectors o)) (sym is) built

@@ -1,6 +1,6 @@
 //! The index that settings ask for.
 ghost use Rattle.std.specs.Prelude.{◌≡◌, ◌⊎◌, Some, None, length, IfOk, IfErr, OnOk};
-ghost use Rattle.graph_rows.specs.View.{contents, kind_code};
+ghost use Rattle.graph_rows.specs.View.{contents};
 ghost use Rattle.graph_rows.specs.WellFormed.{IsWellFormed};
 ghost use Rattle.annbuild_lines.specs.declared.fault.Fault.TheVariants.{NoMemory};
 ghost use Rattle.index_build.specs.IndexOf.{AreForBuild, index_by, index_of, words_of};
@@ -30,7 +30,6 @@ fn plain_index<R: Threads + Sync, G: Gate + Sync>(
     requires { AreForBuild options.now }
     ensures fits { OnOk result (words_refusal (words_of (length points.now.vectors) options.now) ≡ None) }
     ensures index { IfOk result (λ i. contents i ≡ index_by options.now.kind points.now.vectors options.now) }
-    ensures kind { IfOk result (λ i. (contents i).kind ≡ kind_code options.now.kind) }
     ensures well_formed { IfOk result (λ i. IsWellFormed (contents i)) }
     ensures failed { IfErr result (λ fault. (words_refusal (words_of (length points.now.vectors) options.now) ≡ Some fault) ⊎ (fault ≡ NoMemory)) }
 {

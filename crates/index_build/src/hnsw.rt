@@ -3,7 +3,6 @@ ghost use Rattle.std.specs.Prelude.{◌≡◌, ◌⊎◌, ◌+◌, ◌<◌, ◌�
 ghost use Rattle.ann_defs.specs.declared.limits.TheConstants.{MAX_WORDS, MAX_WORKERS};
 ghost use Rattle.graph_rows.specs.View.{contents};
 ghost use Rattle.graph_rows.specs.WellFormed.{IsWellFormed};
-ghost use Rattle.hnsw_build.specs.HnswBuilds.{batches_of};
 ghost use Rattle.hnsw_build.specs.HnswIndex.{hnsw_index};
 ghost use Rattle.hnsw_build.specs.Layering.{words_in};
 ghost use Rattle.annbuild_lines.specs.declared.fault.Fault.TheVariants.{NoMemory as NoMemoryFault};
@@ -39,23 +38,6 @@ fn settings_of(options: &Settings) -> HnswSettings
     }
 }
 
-/// Puts the next batch in.
-fn put_next<R: Threads + Sync, P: Rounds, G: Gate + Sync>(
-    rt: &R,
-    alloc: Global,
-    builder: &mut Hnsw,
-    pool: &mut P,
-    gate: &G,
-) -> Result<(), NoMemory>
-    requires left { builder.old.batch < batches_of builder.old.points builder.old.settings }
-    requires workers { P.count pool.old ≡ builder.old.workers }
-    ensures next { OnOk result (builder.new ≡ record builder.old { batch = builder.old.batch + 1 }) }
-    ensures workers { P.count pool.new ≡ P.count pool.old }
-{
-    let _more = builder.step(rt, alloc, pool, gate)?;
-    Ok(())
-}
-
 /// Builds the index of a plan, batch after batch, on any pool.
 fn index_on<R: Threads + Sync, P: Rounds, G: Gate + Sync>(
     rt: &R,
@@ -71,31 +53,9 @@ fn index_on<R: Threads + Sync, P: Rounds, G: Gate + Sync>(
 {
     let mut builder = Hnsw::new(alloc, plan, pool.workers())?;
     for _batch in 0..builder.total() {
-        put_next(rt, alloc, &mut builder, pool, gate)?;
+        let _more = builder.step(rt, alloc, pool, gate)?;
     }
     Ok(builder.into_index())
-}
-
-/// Builds the index of a plan on the pool that settings ask for, if its rows take no more words than may be.
-fn planned<R: Threads + Sync, G: Gate + Sync>(
-    rt: &R,
-    alloc: Global,
-    plan: &HnswPlan,
-    options: &Settings,
-    gate: &G,
-) -> Result<Index, Fault>
-    requires { (1 ≤ options.now.workers) × (options.now.workers ≤ MAX_WORKERS) }
-    ensures fits { OnOk result (words_refusal (words_in plan.now.levels.items plan.now.settings.degree) ≡ None) }
-    ensures index { IfOk result (λ i. contents i ≡ hnsw_index plan.now.points.now.vectors plan.now.settings plan.now.levels.items) }
-    ensures well_formed { IfOk result (λ i. IsWellFormed (contents i)) }
-    ensures failed { IfErr result (λ fault. (words_refusal (words_in plan.now.levels.items plan.now.settings.degree) ≡ Some fault) ⊎ (fault ≡ NoMemoryFault)) }
-{
-    check_words(plan.words())?;
-    let mut pool = pool_for(options, plan.points.count());
-    match index_on(rt, alloc, plan, &mut pool, gate) {
-        Ok(index) => Ok(index),
-        Err(NoMemory) => Err(Fault::NoMemory),
-    }
 }
 
 /// The HNSW index of points, built on the pool that settings ask for, if its rows take no more words than may be.
@@ -113,8 +73,8 @@ pub(crate) fn layered_index<R: Threads + Sync, G: Gate + Sync>(
     ensures well_formed { IfOk result (λ i. IsWellFormed (contents i)) }
     ensures failed { IfErr result (λ fault. (words_refusal (hnsw_words (length points.now.vectors) options.now) ≡ Some fault) ⊎ (fault ≡ NoMemoryFault)) }
 {
-    match HnswPlan::make(alloc, points, settings_of(options)) {
-        Ok(plan) => planned(rt, alloc, &plan, options, gate),
-        Err(NoMemory) => Err(Fault::NoMemory),
-    }
+    let plan = HnswPlan::make(alloc, points, settings_of(options))?;
+    check_words(plan.words())?;
+    let mut pool = pool_for(options, points.count());
+    Ok(index_on(rt, alloc, &plan, &mut pool, gate)?)
 }

@@ -92,8 +92,5 @@ pub(crate) fn listed_index<R: Threads + Sync, G: Gate + Sync>(
 {
     check_words(words_for(points.count(), options))?;
     let mut pool = pool_for(options, points.count());
-    match index_on(rt, alloc, points, options, &mut pool, gate) {
-        Ok(index) => Ok(index),
-        Err(NoMemory) => Err(Fault::NoMemory),
-    }
+    Ok(index_on(rt, alloc, points, options, &mut pool, gate)?)
 }

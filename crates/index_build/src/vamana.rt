@@ -1,7 +1,6 @@
 //! The Vamana index of points.
 ghost use Rattle.std.specs.Prelude.{◌≡◌, ◌⊎◌, ◌+◌, ◌*◌, ◌<◌, ◌≤◌, Some, None, length, IfOk, IfErr, OnOk};
 ghost use Rattle.ann_defs.specs.declared.limits.TheConstants.{MAX_WORDS};
-ghost use Rattle.vamana_build.specs.Builds.{batches_of};
 ghost use Rattle.graph_rows.specs.View.{contents};
 ghost use Rattle.graph_rows.specs.WellFormed.{IsWellFormed};
 ghost use Rattle.annbuild_lines.specs.declared.fault.Fault.TheVariants.{NoMemory as NoMemoryFault};
@@ -48,23 +47,6 @@ pub fn settings_for_vamana(options: &Settings) -> VamanaSettings
     }
 }
 
-/// Puts the next batch in.
-fn put_next<R: Threads + Sync, P: Rounds, G: Gate + Sync>(
-    rt: &R,
-    alloc: Global,
-    builder: &mut Vamana,
-    pool: &mut P,
-    gate: &G,
-) -> Result<(), NoMemory>
-    requires left { builder.old.batch < batches_of builder.old.points builder.old.settings }
-    requires workers { P.count pool.old ≡ builder.old.workers }
-    ensures next { OnOk result (builder.new ≡ record builder.old { batch = builder.old.batch + 1 }) }
-    ensures workers { P.count pool.new ≡ P.count pool.old }
-{
-    let _change = builder.step(rt, alloc, pool, gate)?;
-    Ok(())
-}
-
 /// Builds the index, batch after batch, on any pool.
 fn index_on<R: Threads + Sync, P: Rounds, G: Gate + Sync>(
     rt: &R,
@@ -83,7 +65,7 @@ fn index_on<R: Threads + Sync, P: Rounds, G: Gate + Sync>(
     let plan = Plan::make(alloc, points, settings_for_vamana(options))?;
     let mut builder = Vamana::new(alloc, &plan, pool.workers())?;
     for _batch in 0..builder.total() {
-        put_next(rt, alloc, &mut builder, pool, gate)?;
+        let _change = builder.step(rt, alloc, pool, gate)?;
     }
     Ok(builder.into_index())
 }
@@ -111,8 +93,5 @@ pub(crate) fn vamana_index<R: Threads + Sync, G: Gate + Sync>(
 {
     check_words(words_for_vamana(points, options))?;
     let mut pool = pool_for(options, points.count());
-    match index_on(rt, alloc, points, options, &mut pool, gate) {
-        Ok(index) => Ok(index),
-        Err(NoMemory) => Err(Fault::NoMemory),
-    }
+    Ok(index_on(rt, alloc, points, options, &mut pool, gate)?)
 }

@@ -1,5 +1,5 @@
 use Rattle.ann_defs.specs.declared.kinds.Kind.TheVariants.{Vamana, Hnsw, Nnd}
-use Rattle.index_build.proofs.IndexFacts.{built_is, built_kind}
+use Rattle.index_build.proofs.IndexFacts.{built_is}
 use Rattle.index_build.proofs.by_kind.plain_index.Goals as goal
 
 pub returns-in-Hnsw-clause-index : goal.returns-in-Hnsw-clause-index
@@ -10,12 +10,3 @@ returns-in-Vamana-clause-index g c = built_is c.vamana_index.result c.args.point
 
 pub returns-in-Nnd-clause-index : goal.returns-in-Nnd-clause-index
 returns-in-Nnd-clause-index g c = built_is c.listed_index.result c.args.points.now c.args.options.now Nnd c.in-Nnd.is c.listed_index.ensures.index
-
-pub returns-in-Hnsw-clause-kind : goal.returns-in-Hnsw-clause-kind
-returns-in-Hnsw-clause-kind g c = built_kind c.layered_index.result c.args.points.now c.args.options.now Hnsw c.in-Hnsw.is c.layered_index.ensures.index
-
-pub returns-in-Vamana-clause-kind : goal.returns-in-Vamana-clause-kind
-returns-in-Vamana-clause-kind g c = built_kind c.vamana_index.result c.args.points.now c.args.options.now Vamana c.in-Vamana.is c.vamana_index.ensures.index
-
-pub returns-in-Nnd-clause-kind : goal.returns-in-Nnd-clause-kind
-returns-in-Nnd-clause-kind g c = built_kind c.listed_index.result c.args.points.now c.args.options.now Nnd c.in-Nnd.is c.listed_index.ensures.index
