@@ -1,5 +1,5 @@
 -- Three points of a layer of four, each with the row of the first alone, are a batch.
-use Rattle.std.proofs.Common.{◌≡◌, ◌≢◌, ℕ, ◌<◌, Bool, true, [], ◌∷◌, refl, subst, inl, inr, arith, lit<}
+use Rattle.std.proofs.Common.{◌≡◌, ◌≢◌, ℕ, ◌<◌, ◌≤◌, Bool, true, [], ◌∷◌, refl, subst, inl, inr, arith, lit<, lit≤}
 use Rattle.std.specs.List.{All, IsDistinct}
 use Rattle.std.proofs.lemmas.List.Elements.{All-nil, All-cons}
 use Rattle.ann_defs.specs.Graph.{has, IsGoodRow}
@@ -44,12 +44,12 @@ unfolding IsDistinct
 none_good n degree u = record { inside = All-nil (λ v. v < n); distinct = tt; others = All-nil (λ v. v ≢ u); short = omega arith }
 
 -- the row of the first point alone is good for another
-first_good : (t : ℕ) → 0 ≢ t → IsGoodRow 5 2 t (0 ∷ [])
-first_good t other = record {
+pub first_good : (degree t : ℕ) → 1 ≤ degree → 0 ≢ t → IsGoodRow 5 degree t (0 ∷ [])
+first_good degree t some other = record {
   inside = All-cons (λ v. v < 5) 0 [] (lit< tt) (All-nil (λ v. v < 5));
   distinct = distinct_once (0 ∷ []) (λ m. m, tt);
   others = All-cons (λ v. v ≢ t) 0 [] other (All-nil (λ v. v ≢ t));
-  short = lit< tt;
+  short = some;
 }
 
 abbrev held : ℕ → Bool
@@ -68,7 +68,7 @@ three_in_four =
       below = λ u h. of_four (λ v. v < 5) (lit< tt) (lit< tt) (lit< tt) (lit< tt) u (all u h);
       batch_held = λ u h. of_three (λ v. held v ≡ true) refl refl refl u (ids u h);
       old_good = λ u h. of_four (λ v. IsGoodRow 5 2 v (layer_row four v)) (none_good 5 2 0) (none_good 5 2 1) (none_good 5 2 2) (none_good 5 2 4) u (all u h);
-      fresh_good = λ u h. of_three (λ v. IsGoodRow 5 2 v (layer_row three v)) (first_good 1 (λ e. omega (arith, e))) (first_good 2 (λ e. omega (arith, e))) (first_good 4 (λ e. omega (arith, e))) u (ids u h);
+      fresh_good = λ u h. of_three (λ v. IsGoodRow 5 2 v (layer_row three v)) (first_good 2 1 (lit≤ tt) (λ e. omega (arith, e))) (first_good 2 2 (lit≤ tt) (λ e. omega (arith, e))) (first_good 2 4 (lit≤ tt) (λ e. omega (arith, e))) u (ids u h);
       fresh_held = λ u h. of_three (λ v. All (λ w. held w ≡ true) (layer_row three v)) zero_held zero_held zero_held u (ids u h);
     }
   where

@@ -1,12 +1,10 @@
 //! Builds of a line of four points.
 ghost use Rattle.std.specs.Prelude.{◌≡◌, ◌≤◌, Some};
 
-use crate::line::line;
+use crate::line::{has_rows, line};
 use ann_shelf::{FreeGate, NoMemory};
 use graph_rows::{FlatGraph, Index, Kind, Rows};
 use std::alloc::Global;
-use std::process::Abort;
-use std::test::Fail;
 use std::thread::Threads;
 use steal_pool::SerialRounds;
 use vamana_build::{Alpha, BatchChange, OrderKind, Plan, StartKind, Vamana, VamanaSettings};
@@ -25,19 +23,6 @@ fn small(cap: u32, passes: u32) -> VamanaSettings
         cap: Some(cap),
         passes,
     }
-}
-
-// Whether these are the rows of a graph.
-fn has_rows(graph: &FlatGraph, rows: &[&[u32]]) -> bool {
-    if graph.count() as usize != rows.len() {
-        return false;
-    }
-    for (id, row) in rows.iter().enumerate() {
-        if graph.row(id as u32) != *row {
-            return false;
-        }
-    }
-    true
 }
 
 // What crosses threads beside a build: its plan is shared, it and its changes are sent.
@@ -61,85 +46,6 @@ fn stepped<R: Threads + Sync>(
     build.step(rt, alloc, &mut SerialRounds::new(), &FreeGate)
 }
 
-// The number of the next batch, which is put in, or 0 if all are in.
-fn next_batch<R: Threads + Sync>(rt: &R, alloc: Global, build: &mut Vamana) -> Result<u32, NoMemory>
-    requires { build.old.workers ≡ 1 }
-    ensures { build.new.workers ≡ 1 }
-{
-    let change = stepped(rt, alloc, build)?;
-    Ok(change.map_or(0, |c| c.batch()))
-}
-
-// The numbers of the next three batches, which are put in.
-fn next_three<R: Threads + Sync>(
-    rt: &R,
-    alloc: Global,
-    build: &mut Vamana,
-) -> Result<[u32; 3], NoMemory>
-    requires { build.old.workers ≡ 1 }
-    ensures { build.new.workers ≡ 1 }
-{
-    let first = next_batch(rt, alloc, build)?;
-    let second = next_batch(rt, alloc, build)?;
-    let third = next_batch(rt, alloc, build)?;
-    Ok([first, second, third])
-}
-
-// Whether this is what an index of the line says beside its rows.
-fn is_of_the_line(index: &Index) -> bool {
-    let sizes = (index.count, index.dim, index.degree, index.start);
-    index.kind == Kind::Vamana && sizes == (4, 1, 2, 0) && index.upper.is_empty()
-}
-
-#[test]
-fn three_batches_and_then_none(rt: HostRuntime) -> Result<(), Fail> {
-    let alloc = rt.alloc();
-    let points = line(alloc)?;
-    assert!(rt; points.count() == 4);
-    let plan = Plan::make(alloc, &points, small(4, 1))?;
-    let mut build = Vamana::new(alloc, &plan, 1)?;
-    assert_crosses_threads(&plan, &build);
-    assert!(rt; build.total() == 3);
-    assert!(rt; next_three(&rt, alloc, &mut build)? == [1, 2, 3]);
-    assert!(rt; next_batch(&rt, alloc, &mut build)? == 0);
-    assert!(rt; has_rows(build.graph(), &[&[1], &[0, 2], &[1], &[1]]));
-    Ok(())
-}
-
-#[test]
-fn batches_of_one_see_each_other(rt: HostRuntime) -> Result<(), Fail> {
-    let alloc = rt.alloc();
-    let points = line(alloc)?;
-    assert!(rt; points.count() == 4);
-    let plan = Plan::make(alloc, &points, small(1, 1))?;
-    let mut build = Vamana::new(alloc, &plan, 1)?;
-    assert!(rt; next_three(&rt, alloc, &mut build)? == [1, 2, 3]);
-    assert!(rt; next_batch(&rt, alloc, &mut build)? == 4);
-    assert!(rt; build.batch() == build.total());
-    let index = build.into_index();
-    assert!(rt; is_of_the_line(&index));
-    assert!(rt; has_rows(&index.base, &[&[1], &[0, 2], &[1, 3], &[2]]));
-    Ok(())
-}
-
-// Whether the next batch changes so many rows, which are those that the graph has then. They are put into the copy.
-fn puts<R: Threads + Sync>(
-    rt: &R,
-    alloc: Global,
-    build: &mut Vamana,
-    rows: u32,
-    copy: &mut FlatGraph,
-) -> Result<bool, NoMemory>
-    requires { build.old.workers ≡ 1 }
-    ensures { build.new.workers ≡ 1 }
-{
-    let Some(change) = stepped(rt, alloc, build)? else {
-        return Ok(false);
-    };
-    change.put_into(copy);
-    Ok(change.len() == rows && are_of(&change, build.graph()))
-}
-
 // Whether the rows of a change are those that the graph has.
 fn are_of(change: &BatchChange, graph: &FlatGraph) -> bool {
     for j in 0..change.len() {
@@ -151,51 +57,112 @@ fn are_of(change: &BatchChange, graph: &FlatGraph) -> bool {
     true
 }
 
-#[test]
-fn a_change_holds_the_rows_that_differ(rt: HostRuntime) -> Result<(), Fail> {
-    let alloc = rt.alloc();
-    let points = line(alloc)?;
-    assert!(rt; points.count() == 4);
-    let plan = Plan::make(alloc, &points, small(4, 1))?;
-    let mut build = Vamana::new(alloc, &plan, 1)?;
-    let mut copy = FlatGraph::new(alloc, 4, 2)?;
-    assert!(rt; puts(&rt, alloc, &mut build, 0, &mut copy)?);
-    assert!(rt; puts(&rt, alloc, &mut build, 2, &mut copy)?);
-    assert!(rt; puts(&rt, alloc, &mut build, 3, &mut copy)?);
-    assert!(rt; has_rows(&copy, &[&[1], &[0, 2], &[1], &[1]]));
-    Ok(())
-}
-
-// How many rows each batch of two passes changes.
-const CHANGED: [u32; 6] = [0, 2, 3, 0, 0, 2];
-
-// Puts all batches in, and asserts how many rows each changes. They are put into the copy.
-fn put_all<R: Threads + Sync + Abort>(
+// Puts the next batch in, and its rows into the copy. Its number and how many rows it changes, which are those that the
+// graph has then; zeros if all are in.
+fn next_batch<R: Threads + Sync>(
     rt: &R,
     alloc: Global,
     build: &mut Vamana,
     copy: &mut FlatGraph,
-) -> Result<(), NoMemory>
+) -> Result<(u32, u32), NoMemory>
     requires { build.old.workers ≡ 1 }
     ensures { build.new.workers ≡ 1 }
 {
-    for rows in CHANGED {
-        assert!(rt; puts(rt, alloc, build, rows, copy)?);
+    let Some(change) = stepped(rt, alloc, build)? else {
+        return Ok((0, 0));
+    };
+    change.put_into(copy);
+    if !are_of(&change, build.graph()) {
+        return Ok((0, 0));
     }
-    Ok(())
+    Ok((change.batch(), change.len()))
+}
+
+// Whether each batch changes so many rows, and then none is left. They are put into the copy.
+fn goes_by<R: Threads + Sync>(
+    rt: &R,
+    alloc: Global,
+    build: &mut Vamana,
+    changed: &[u32],
+    copy: &mut FlatGraph,
+) -> Result<bool, NoMemory>
+    requires { build.old.workers ≡ 1 }
+{
+    let mut batch = 0u32;
+    for rows in changed {
+        batch = batch.wrapping_add(1);
+        if next_batch(rt, alloc, build, copy)? != (batch, *rows) {
+            return Ok(false);
+        }
+    }
+    Ok(build.total() == batch && next_batch(rt, alloc, build, copy)? == (0, 0))
+}
+
+// Whether this is what an index of the line says.
+fn is_of_the_line(index: &Index, rows: &[&[u32]]) -> bool {
+    let sizes = (index.count, index.dim, index.degree, index.start);
+    index.kind == Kind::Vamana
+        && sizes == (4, 1, 2, 0)
+        && index.upper.is_empty()
+        && has_rows(&index.base, rows)
+}
+
+// Whether all batches are in, and the graph and the index have these rows.
+fn ends_with(build: Vamana, rows: &[&[u32]]) -> bool {
+    if build.batch() != build.total() || !has_rows(build.graph(), rows) {
+        return false;
+    }
+    is_of_the_line(&build.into_index(), rows)
+}
+
+// Whether the batches of a plan change so many rows each, and the index and what the changes make have these rows then.
+fn is_built_by<R: Threads + Sync>(
+    rt: &R,
+    alloc: Global,
+    plan: &Plan,
+    changed: &[u32],
+    rows: &[&[u32]],
+) -> Result<bool, NoMemory> {
+    let mut copy = FlatGraph::new(alloc, 4, 2)?;
+    let mut build = Vamana::new(alloc, plan, 1)?;
+    assert_crosses_threads(plan, &build);
+    let went = goes_by(rt, alloc, &mut build, changed, &mut copy)?;
+    Ok(ends_with(build, rows) && went && has_rows(&copy, rows))
+}
+
+// The same of a build of the line at this cap in so many passes.
+fn is_built<R: Threads + Sync>(
+    rt: &R,
+    alloc: Global,
+    cap: u32,
+    passes: u32,
+    changed: &[u32],
+    rows: &[&[u32]],
+) -> Result<bool, NoMemory>
+    requires cap { (1 ≤ cap) × (cap ≤ 4) }
+    requires passes { (1 ≤ passes) × (passes ≤ 2) }
+{
+    let points = line(alloc)?;
+    let plan = Plan::make(alloc, &points, small(cap, passes))?;
+    is_built_by(rt, alloc, &plan, changed, rows)
+}
+
+// The rows where points 2 and 3 are put in together, and where each point sees the one before it.
+const TOGETHER: [&[u32]; 4] = [&[1], &[0, 2], &[1], &[1]];
+
+const CHAIN: [&[u32]; 4] = [&[1], &[0, 2], &[1, 3], &[2]];
+
+#[test]
+fn three_batches_and_then_none(rt: HostRuntime) {
+    assert!(rt; is_built(&rt, rt.alloc(), 4, 1, &[0, 2, 3], &TOGETHER) == Ok(true));
 }
 
 #[test]
-fn a_second_pass_goes_on_from_the_rows_of_the_first(rt: HostRuntime) -> Result<(), Fail> {
-    let alloc = rt.alloc();
-    let points = line(alloc)?;
-    assert!(rt; points.count() == 4);
-    let plan = Plan::make(alloc, &points, small(4, 2))?;
-    let mut build = Vamana::new(alloc, &plan, 1)?;
-    let mut copy = FlatGraph::new(alloc, 4, 2)?;
-    assert!(rt; build.total() == 6);
-    put_all(&rt, alloc, &mut build, &mut copy)?;
-    assert!(rt; next_batch(&rt, alloc, &mut build)? == 0);
-    assert!(rt; has_rows(&copy, &[&[1], &[0, 2], &[1, 3], &[2]]));
-    Ok(())
+fn batches_of_one_see_each_other(rt: HostRuntime) {
+    assert!(rt; is_built(&rt, rt.alloc(), 1, 1, &[0, 2, 2, 2], &CHAIN) == Ok(true));
+}
+
+#[test]
+fn a_second_pass_goes_on_from_the_rows_of_the_first(rt: HostRuntime) {
+    assert!(rt; is_built(&rt, rt.alloc(), 4, 2, &[0, 2, 3, 0, 0, 2], &CHAIN) == Ok(true));
 }

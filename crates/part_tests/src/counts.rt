@@ -22,24 +22,30 @@ const HEADER: [u8; 32] = [
     0, 0,
 ];
 
-// How many calls it takes to write a megabyte of points and to read it again, if it is the same then.
-fn calls_for_points(alloc: Global, element: Element) -> Result<Option<(u64, u64)>, Fail> {
-    let points = Points::of(element, 256, vec![in alloc; 7u8; 1_048_576]?);
-    let mut shelf = MemShelf::new(alloc);
-    write_points(&mut shelf, "a", &points)?;
+// Whether it takes few calls to write these points and few to read them again, and they are the same then.
+fn takes_few_calls(
+    alloc: Global,
+    shelf: &mut MemShelf,
+    points: &Points,
+    element: Element,
+) -> Result<bool, Fail> {
+    write_points(shelf, "a", points)?;
     let written = shelf.calls();
-    let again = read_points_as(alloc, &mut shelf, "a", element)?;
-    if !again.is_same(&points) {
-        return Ok(None);
-    }
-    Ok(Some((written, shelf.calls().saturating_sub(written))))
+    let again = read_points_as(alloc, shelf, "a", element)?;
+    let read = shelf.calls().saturating_sub(written);
+    Ok(again.is_same(points) && written <= FEW && read <= FEW)
+}
+
+// Whether it does so for a megabyte of them.
+fn megabyte_takes_few_calls(alloc: Global, element: Element) -> Result<bool, Fail> {
+    let points = Points::of(element, 256, vec![in alloc; 7u8; 1_048_576]?);
+    takes_few_calls(alloc, &mut MemShelf::new(alloc), &points, element)
 }
 
 #[test]
 fn a_megabyte_of_points_takes_few_calls(rt: HostRuntime) -> Result<(), Fail> {
     for element in [Element::U8, Element::I8] {
-        let calls = calls_for_points(rt.alloc(), element)?;
-        assert!(rt; calls.is_some_and(|(written, read)| written <= FEW && read <= FEW));
+        assert!(rt; megabyte_takes_few_calls(rt.alloc(), element)?);
     }
     Ok(())
 }
@@ -52,17 +58,26 @@ fn empty_rows(alloc: Global) -> Result<Vec<u8>, NoMemory> {
     Ok(text)
 }
 
+// How many calls it takes to read the index of one file, and to write it to another.
+fn calls_of_a_copy(alloc: Global, shelf: &mut MemShelf) -> Result<(u64, u64), Fail> {
+    let index = read_index(alloc, shelf, "a")?;
+    let read = shelf.calls();
+    write_index(shelf, "b", &index)?;
+    Ok((read, shelf.calls().saturating_sub(read)))
+}
+
+// Whether an index file is copied by few calls, byte for byte.
+fn is_copied_by_few_calls(alloc: Global, text: &[u8]) -> Result<bool, Fail> {
+    let mut shelf = MemShelf::new(alloc);
+    shelf.put("a", text)?;
+    let (read, written) = calls_of_a_copy(alloc, &mut shelf)?;
+    Ok(read <= FEW && written <= FEW && shelf.bytes("b") == Some(text))
+}
+
 #[test]
 fn a_megabyte_of_rows_takes_few_calls(rt: HostRuntime) -> Result<(), Fail> {
     let text = empty_rows(rt.alloc())?;
-    let mut shelf = MemShelf::new(rt.alloc());
-    shelf.put("a", &text)?;
-    let index = read_index(rt.alloc(), &mut shelf, "a")?;
-    let read = shelf.calls();
-    assert!(rt; read <= FEW);
-    write_index(&mut shelf, "b", &index)?;
-    assert!(rt; shelf.calls() <= read.saturating_add(FEW));
-    assert!(rt; shelf.bytes("b") == Some(text.as_slice()));
+    assert!(rt; is_copied_by_few_calls(rt.alloc(), text.as_slice())?);
     Ok(())
 }
 

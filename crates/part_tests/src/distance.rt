@@ -19,15 +19,21 @@ fn plain(a: &[u8], b: &[u8]) -> u32
     total
 }
 
-// Whether both give the same for the first `n` bytes of two points of 100 bytes.
-fn alike(n: usize) -> bool {
-    let mut a = [0u8; 100];
-    let mut b = [0u8; 100];
-    for i in 0..100usize {
+// Two points of 2048 bytes.
+fn two_points() -> ([u8; 2048], [u8; 2048]) {
+    let mut a = [0u8; 2048];
+    let mut b = [0u8; 2048];
+    for i in 0..2048usize {
         a[i] = (i * 37 % 256) as u8;
         b[i] = (i * i * 11 % 256) as u8;
     }
-    n > 100 || dist(&a[..n], &b[..n]) == plain(&a[..n], &b[..n])
+    (a, b)
+}
+
+// Whether both give the same for the first `n` bytes of the two points.
+fn alike(n: usize) -> bool {
+    let (a, b) = two_points();
+    n > 2048 || dist(&a[..n], &b[..n]) == plain(&a[..n], &b[..n])
 }
 
 #[test]
@@ -60,14 +66,9 @@ fn differences_are_squared_in_both_directions(rt: HostRuntime) {
     assert!(rt; dist(&[3, 200, 255], &[3, 200, 255]) == 0);
 }
 
-// Whether the distance of the first `n` bytes of two points is told as far as each of some bounds asks for it.
+// Whether the distance of their first `n` bytes is told as far as each of some bounds asks for it.
 fn is_told_within(n: usize) -> bool {
-    let mut a = [0u8; 2048];
-    let mut b = [0u8; 2048];
-    for i in 0..2048usize {
-        a[i] = (i * 37 % 256) as u8;
-        b[i] = (i * i * 11 % 256) as u8;
-    }
+    let (a, b) = two_points();
     if n > 2048 {
         return false;
     }

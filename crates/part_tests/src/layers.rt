@@ -1,10 +1,11 @@
 //! HNSW builds of a line of four points, with given levels and with one layer alone.
-ghost use Rattle.std.specs.Prelude.{◌≡◌, ◌≤◌, Some};
+ghost use Rattle.std.specs.Prelude.{◌≡◌, ◌≤◌, Some, length};
 
-use crate::line::line;
+use crate::line::{has_rows, line};
 use ann_defs::MAX_WORDS;
 use ann_shelf::{FreeGate, NoMemory};
-use graph_rows::{Index, Kind, Rows};
+use bin_files::Points;
+use graph_rows::{Index, Kind};
 use hnsw_build::{Hnsw, HnswPlan, HnswSettings, OrderKind};
 use std::alloc::Global;
 use std::test::Fail;
@@ -26,7 +27,30 @@ fn small() -> HnswSettings
     }
 }
 
-// The index of a plan, where the build has three batches, each step tells of one more, and a further one of none.
+// Whether a build has three batches, and each step tells of one more, and a further one of none.
+fn goes_in_three<R: Threads + Sync>(
+    rt: &R,
+    alloc: Global,
+    build: &mut Hnsw,
+) -> Result<bool, NoMemory>
+    requires { build.old.workers ≡ 1 }
+{
+    let mut told = [false; 4];
+    for i in 0..4usize {
+        told[i] = build.step(rt, alloc, &mut SerialRounds::new(), &FreeGate)?;
+    }
+    Ok(told == [true, true, true, false])
+}
+
+// The index of a build, where all batches are in.
+fn index_of(build: Hnsw) -> Option<Index> {
+    if build.batch() != build.total() {
+        return None;
+    }
+    Some(build.into_index())
+}
+
+// The index of a plan, where the build has three batches.
 fn in_three<R: Threads + Sync>(
     rt: &R,
     alloc: Global,
@@ -36,29 +60,15 @@ fn in_three<R: Threads + Sync>(
         return Ok(None);
     }
     let mut build = Hnsw::new(alloc, plan, 1)?;
-    let mut told = [false; 4];
-    for i in 0..4usize {
-        told[i] = build.step(rt, alloc, &mut SerialRounds::new(), &FreeGate)?;
-    }
-    if build.batch() != build.total() || told != [true, true, true, false] {
+    if !goes_in_three(rt, alloc, &mut build)? {
         return Ok(None);
     }
-    Ok(Some(build.into_index()))
+    Ok(index_of(build))
 }
 
 // Whether the rows of layer 0 are a chain whose ends and middle were worked out by hand.
 fn has_base(index: &Index) -> bool {
-    if index.base.count() != 4 {
-        return false;
-    }
-    let rows: [&[u32]; 4] = [&[1], &[0, 2], &[1], &[1]];
-    let found = [
-        index.base.row(0),
-        index.base.row(1),
-        index.base.row(2),
-        index.base.row(3),
-    ];
-    found == rows
+    has_rows(&index.base, &[&[1], &[0, 2], &[1], &[1]])
 }
 
 // Whether point 1 is alone in layer 1, at which searches start.
@@ -73,23 +83,42 @@ fn is_of_two_layers(index: &Index) -> bool {
         && index.upper[0].edges() == 0
 }
 
+// Whether a plan of the line with these levels has these words, and puts point 1 first.
+fn gives_two_layers<R: Threads + Sync>(
+    rt: &R,
+    alloc: Global,
+    points: &Points,
+) -> Result<bool, NoMemory>
+    requires { length points.now.vectors ≡ 4 }
+{
+    let levels = vec![in alloc; 0u8, 1, 0, 0]?;
+    let plan = HnswPlan::of_levels(alloc, points, small(), levels)?;
+    let planned = plan.order.as_slice() == [1u32, 0, 2, 3].as_slice() && plan.words() == 14;
+    let index = in_three(rt, alloc, &plan)?;
+    Ok(planned && index.is_some_and(|i| is_of_two_layers(&i) && has_base(&i)))
+}
+
 #[test]
 fn one_point_of_level_one_is_alone_in_its_layer(rt: HostRuntime) -> Result<(), Fail> {
     let points = line(rt.alloc())?;
-    assert!(rt; points.count() == 4);
-    let levels = vec![in rt.alloc(); 0u8, 1, 0, 0]?;
-    let plan = HnswPlan::of_levels(rt.alloc(), &points, small(), levels)?;
-    assert!(rt; plan.order.as_slice() == [1u32, 0, 2, 3].as_slice() && plan.words() == 14);
-    let index = in_three(&rt, rt.alloc(), &plan)?.expect(&rt, "three batches");
-    assert!(rt; is_of_two_layers(&index) && has_base(&index));
+    assert!(rt; gives_two_layers(&rt, rt.alloc(), &points)?);
     Ok(())
+}
+
+// Whether the plan of the line gives one layer.
+fn gives_one_layer<R: Threads + Sync>(
+    rt: &R,
+    alloc: Global,
+    points: &Points,
+) -> Result<bool, NoMemory> {
+    let plan = HnswPlan::make(alloc, points, small())?;
+    let index = in_three(rt, alloc, &plan)?;
+    Ok(index.is_some_and(|i| i.start == 0 && i.upper.is_empty() && has_base(&i)))
 }
 
 #[test]
 fn greatest_level_zero_gives_one_layer(rt: HostRuntime) -> Result<(), Fail> {
     let points = line(rt.alloc())?;
-    let plan = HnswPlan::make(rt.alloc(), &points, small())?;
-    let index = in_three(&rt, rt.alloc(), &plan)?.expect(&rt, "three batches");
-    assert!(rt; index.start == 0 && index.upper.is_empty() && has_base(&index));
+    assert!(rt; gives_one_layer(&rt, rt.alloc(), &points)?);
     Ok(())
 }

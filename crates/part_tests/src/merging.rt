@@ -1,7 +1,6 @@
 //! Proposals, merged rows, and what a batch changes in a layer.
 ghost use Rattle.std.specs.Prelude.{◌≡◌, ◌<◌, ◌≤◌, [], ◌∷◌, length, IfOk};
 ghost use Rattle.ann_defs.specs.Distance.{point};
-ghost use Rattle.steal_pool.specs.Work.{AllServe};
 
 use ann_defs::{Alpha, Near};
 use ann_shelf::{FreeGate, NoMemory};
@@ -158,13 +157,13 @@ fn change_of_three<R: Threads + Sync>(
     points: &Points,
     old: &Layer,
     fresh: &Layer,
-    post: &mut [Post<Vec<Near>>; 1],
 ) -> Result<ChangedRows, NoMemory>
     requires points { length points.now.vectors ≡ 5 }
     requires old { old.now ≡ record { width = 2; entries = (0, []) ∷ (1, []) ∷ (2, []) ∷ (4, []) ∷ [] } }
     requires fresh { fresh.now ≡ record { width = 2; entries = (1, 0 ∷ []) ∷ (2, 0 ∷ []) ∷ (4, 0 ∷ []) ∷ [] } }
-    requires post { AllServe (λ s. 7 ≤ length s.items) post.old }
 {
+    let room = vec![in alloc; Near { dist: 0, id: 0 }; 7]?;
+    let mut post = [Post::new(room)];
     let merging = NearestMerges {
         pruning: NearestPrune { points, degree: 2 },
     };
@@ -177,7 +176,7 @@ fn change_of_three<R: Threads + Sync>(
         &[1, 2, 4],
         fresh,
         &merging,
-        post,
+        &mut post,
         &FreeGate,
     )
 }
@@ -196,17 +195,29 @@ fn has_row(layer: &Layer, id: u32, row: &[u32]) -> bool {
     layer.holds(id) && layer.row(id) == row
 }
 
+// Whether the rows of three points change four rows of the layer, as they were worked out.
+fn changes_four<R: Threads + Sync>(
+    rt: &R,
+    alloc: Global,
+    points: &Points,
+    fresh: &Layer,
+    layer: &mut Layer,
+) -> Result<bool, NoMemory>
+    requires points { length points.now.vectors ≡ 5 }
+    requires fresh { fresh.now ≡ record { width = 2; entries = (1, 0 ∷ []) ∷ (2, 0 ∷ []) ∷ (4, 0 ∷ []) ∷ [] } }
+    requires layer { layer.old ≡ record { width = 2; entries = (0, []) ∷ (1, []) ∷ (2, []) ∷ (4, []) ∷ [] } }
+{
+    let changed = change_of_three(rt, alloc, points, layer, fresh)?;
+    changed.put_into_layer(layer);
+    Ok(are_four(&changed, &[1, 2], &[0]))
+}
+
 #[test]
 fn a_layer_changes_where_new_rows_or_their_targets_differ(rt: HostRuntime) -> Result<(), Fail> {
     let points = line(rt.alloc())?;
-    let mut layer = layer_of_four(rt.alloc())?;
     let fresh = rows_of_three(rt.alloc())?;
-    let room = vec![in rt.alloc(); Near { dist: 0, id: 0 }; 7]?;
-    let mut post = [Post::new(room)];
-    let changed = change_of_three(&rt, rt.alloc(), &points, &layer, &fresh, &mut post)?;
-    assert!(rt; are_four(&changed, &[1, 2], &[0]));
-    changed.put_into_layer(&mut layer);
-    assert!(rt; has_row(&layer, 0, &[1, 2]));
-    assert!(rt; has_row(&layer, 2, &[0]));
+    let mut layer = layer_of_four(rt.alloc())?;
+    assert!(rt; changes_four(&rt, rt.alloc(), &points, &fresh, &mut layer)?);
+    assert!(rt; has_row(&layer, 0, &[1, 2]) && has_row(&layer, 2, &[0]));
     Ok(())
 }

@@ -41,34 +41,59 @@ pub(crate) fn search_line(
 }
 
 // A scratch after two searches of the line, of which the first has the greatest beam.
+fn searched_in(
+    alloc: Global,
+    points: &Points,
+    graph: &FlatGraph,
+    first: u8,
+    query: u8,
+    beam: u32,
+) -> Result<Scratch, NoMemory>
+    requires count { length points.now.vectors ≡ 4 }
+    requires dim { dim_of points.now.vectors ≡ 1 }
+    requires good { AreGoodRows 4 2 graph.now.rows }
+    requires beam { beam ≤ 4 }
+{
+    let mut scratch = Scratch::new(alloc, 4, 4)?;
+    search_line(points, graph, first, 4, &mut scratch);
+    search_line(points, graph, query, beam, &mut scratch);
+    Ok(scratch)
+}
+
+// The same of the line with its graph.
 fn searched(alloc: Global, first: u8, query: u8, beam: u32) -> Result<Scratch, NoMemory>
     requires { beam ≤ 4 }
 {
     let points = line(alloc)?;
     let graph = line_graph(alloc)?;
-    let mut scratch = Scratch::new(alloc, 4, 4)?;
-    if points.count() == 4 && points.dim() == 1 {
-        search_line(&points, &graph, first, 4, &mut scratch);
-        search_line(&points, &graph, query, beam, &mut scratch);
-    }
-    Ok(scratch)
+    searched_in(alloc, &points, &graph, first, query, beam)
+}
+
+// Whether a search after another finds and visits these.
+fn is_searched(
+    alloc: Global,
+    query: u8,
+    beam: u32,
+    nearest: &[Near],
+    walk: &[Near],
+) -> Result<bool, NoMemory>
+    requires { beam ≤ 4 }
+{
+    let scratch = searched(alloc, 3, query, beam)?;
+    Ok(found(&scratch) == nearest && visited(&scratch) == walk)
 }
 
 #[test]
-fn the_nearest_are_found_along_the_line(rt: HostRuntime) -> Result<(), Fail> {
-    let scratch = searched(rt.alloc(), 3, 12, 4)?;
+fn the_nearest_are_found_along_the_line(rt: HostRuntime) {
     let all = [near(4, 1), near(64, 2), near(144, 0)];
-    assert!(rt; found(&scratch) == all.as_slice());
     let walk = [near(144, 0), near(4, 1), near(64, 2)];
-    assert!(rt; visited(&scratch) == walk.as_slice());
-    Ok(())
+    assert!(rt; is_searched(rt.alloc(), 12, 4, &all, &walk) == Ok(true));
 }
 
 #[test]
-fn a_beam_of_one_finds_one(rt: HostRuntime) -> Result<(), Fail> {
-    let scratch = searched(rt.alloc(), 3, 12, 1)?;
-    assert!(rt; found(&scratch) == [near(4, 1)].as_slice());
-    Ok(())
+fn a_beam_of_one_finds_one(rt: HostRuntime) {
+    let walk = [near(144, 0), near(4, 1)];
+    assert!(rt; is_searched(rt.alloc(), 12, 1, &[near(4, 1)], &walk) == Ok(true));
 }
 
 // The ids with their squared distances join the list in order, each once, and the nearest stay.
@@ -100,23 +125,39 @@ fn first_left(list: &[Near], visited: &[Near]) -> Option<Near> {
     None
 }
 
-// What a search of the line from 0 finds and visits: the nearest that was found and not visited is visited, while there
-// is one.
-fn plain(alloc: Global, query: &[u8], beam: usize) -> Result<(Vec<Near>, Vec<Near>), NoMemory> {
-    let points = line(alloc)?;
-    let graph = line_graph(alloc)?;
-    let mut list = Vec::new(alloc);
-    let mut walk = Vec::new(alloc);
-    join(&points, query, &[0], beam, &mut list)?;
+// Visits the nearest that was found and not visited, while there is one.
+fn walk_on(
+    points: &Points,
+    graph: &FlatGraph,
+    query: &[u8],
+    beam: usize,
+    list: &mut Vec<Near>,
+    walk: &mut Vec<Near>,
+) -> Result<(), NoMemory> {
     for _ in 0..points.count() {
-        let Some(p) = first_left(&list, &walk) else {
+        let Some(p) = first_left(list, walk) else {
             break;
         };
         walk.push(p)?;
         if graph.holds(p.id) {
-            join(&points, query, graph.row(p.id), beam, &mut list)?;
+            join(points, query, graph.row(p.id), beam, list)?;
         }
     }
+    Ok(())
+}
+
+// What a search of the line from 0 finds and visits.
+fn plain(
+    alloc: Global,
+    points: &Points,
+    query: &[u8],
+    beam: usize,
+) -> Result<(Vec<Near>, Vec<Near>), NoMemory> {
+    let graph = line_graph(alloc)?;
+    let mut list = Vec::new(alloc);
+    let mut walk = Vec::new(alloc);
+    join(points, query, &[0], beam, &mut list)?;
+    walk_on(points, &graph, query, beam, &mut list, &mut walk)?;
     Ok((list, walk))
 }
 
@@ -125,7 +166,8 @@ fn is_as_plain(alloc: Global, query: u8, beam: u32) -> Result<bool, NoMemory>
     requires { beam ≤ 4 }
 {
     let scratch = searched(alloc, 255 - query, query, beam)?;
-    let (list, walk) = plain(alloc, &[query], beam as usize)?;
+    let points = line(alloc)?;
+    let (list, walk) = plain(alloc, &points, &[query], beam as usize)?;
     Ok(found(&scratch) == list.as_slice() && visited(&scratch) == walk.as_slice())
 }
 
@@ -165,9 +207,6 @@ fn candidates_of_one(alloc: Global) -> Result<(Vec<Near>, Vec<Near>), NoMemory> 
     let points = line(alloc)?;
     let graph = line_graph(alloc)?;
     let mut scratch = Scratch::new(alloc, 4, 4)?;
-    if points.count() != 4 {
-        return Ok((Vec::new(alloc), Vec::new(alloc)));
-    }
     let list = candidates_at(alloc, &points, &graph, 1, &mut scratch)?;
     Ok((list, visited(&scratch).to_vec(alloc)?))
 }

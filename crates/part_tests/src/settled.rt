@@ -67,8 +67,55 @@ fn later_sources(alloc: Global, first: u32) -> Result<Vec<Pair>, NoMemory>
     Ok(pairs)
 }
 
-// Whether a row of the first point, pruned of the ids before `first` and then with the later ones, is the same where the
-// row's ids are known to stay together, where they are tested again, and as a prune of all of them.
+// The row of the first point merged with these sources, where so many of its ids are known to stay together.
+fn merged(
+    pruning: &RobustPrune,
+    row: &[u32],
+    settled: usize,
+    sources: &[Pair],
+    first: u32,
+    out: &mut [u32],
+) -> usize
+    requires count { length pruning.now.points.now.vectors ≡ 40 }
+    requires degree { pruning.now.degree ≤ 20 }
+    requires row { IsGoodRow (length pruning.now.points.now.vectors) pruning.now.degree 0 row.now }
+    requires settled { settled ≤ length row.now }
+    requires apart { are_apart pruning.now.points.now.vectors pruning.now.alpha.num pruning.now.alpha.den 0 (take settled row.now) ≡ true }
+    requires sources { sources_in sources.now ≡ range_with_len first (40 - first) }
+    requires few { length sources.now ≤ 40 }
+    requires first { (1 ≤ first) × (first ≤ 40) }
+    requires out { pruning.now.degree ≤ length out.old }
+    ensures { result ≤ pruning.now.degree }
+{
+    let mut room = [Near { dist: 0, id: 0 }; 80];
+    merged_row(pruning, 0, row, settled, sources, &mut room, out)
+}
+
+// Whether a row of the first point, with the later ids as sources, is the same where the row's ids are known to stay
+// together, where they are tested again, and as a prune of all of them.
+fn agree_at(pruning: &RobustPrune, row: &[u32], sources: &[Pair], first: u32, all: &[u32]) -> bool
+    requires count { length pruning.now.points.now.vectors ≡ 40 }
+    requires degree { pruning.now.degree ≤ 20 }
+    requires row { IsGoodRow (length pruning.now.points.now.vectors) pruning.now.degree 0 row.now }
+    requires apart { are_apart pruning.now.points.now.vectors pruning.now.alpha.num pruning.now.alpha.den 0 row.now ≡ true }
+    requires sources { sources_in sources.now ≡ range_with_len first (40 - first) }
+    requires few { length sources.now ≤ 40 }
+    requires first { (1 ≤ first) × (first ≤ 40) }
+    requires all { All (λ u. u < 40) all.now }
+    requires short { length all.now ≤ 80 }
+{
+    let mut known = [0u32; 20];
+    let mut tested = [0u32; 20];
+    let mut plain = [0u32; 20];
+    let known_len = merged(pruning, row, row.len(), sources, first, &mut known);
+    let tested_len = merged(pruning, row, 0, sources, first, &mut tested);
+    let plain_len = row_among(pruning, all, &mut plain);
+    let has_room = all.len() <= pruning.degree as usize;
+    &known[..known_len] == &tested[..tested_len]
+        && (has_room || &known[..known_len] == &plain[..plain_len])
+}
+
+// Whether this holds of a row that is pruned of the ids before `first`, with those from it on.
 fn agree(
     alloc: Global,
     points: &Points,
@@ -90,34 +137,13 @@ fn agree(
     let len = row_among(&pruning, early.as_slice(), &mut row);
     let sources = later_sources(alloc, first)?;
     let all = with_later(alloc, &row[..len], first, 40)?;
-    let mut room = [Near { dist: 0, id: 0 }; 80];
-    let mut known = [0u32; 20];
-    let mut tested = [0u32; 20];
-    let mut plain = [0u32; 20];
-    let known_len = merged_row(
+    Ok(agree_at(
         &pruning,
-        0,
         &row[..len],
-        len,
         sources.as_slice(),
-        &mut room,
-        &mut known,
-    );
-    let tested_len = merged_row(
-        &pruning,
-        0,
-        &row[..len],
-        0,
-        sources.as_slice(),
-        &mut room,
-        &mut tested,
-    );
-    let plain_len = row_among(&pruning, all.as_slice(), &mut plain);
-    let has_room = all.len() <= degree as usize;
-    Ok(
-        &known[..known_len] == &tested[..tested_len]
-            && (has_room || &known[..known_len] == &plain[..plain_len]),
-    )
+        first,
+        all.as_slice(),
+    ))
 }
 
 #[test]
