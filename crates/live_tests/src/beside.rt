@@ -1,9 +1,8 @@
 //! Eight callers beside a build.
-ghost use Rattle.std.specs.Prelude.{◌≡◌, IfOk};
+ghost use Rattle.std.specs.Prelude.{◌≡◌};
 ghost use Rattle.std.specs.List.{All};
 ghost use Rattle.ann_defs.specs.Distance.{dim_of};
 ghost use Rattle.versions.specs.Course.{course_of};
-ghost use Rattle.versions.specs.Standing.{starting};
 ghost use Rattle.live_tests.specs.InStep.{AreInStep};
 ghost use Rattle.live_tests.specs.Seated.{CanAsk};
 
@@ -16,10 +15,9 @@ use seeded_order::made_points;
 use std::alloc::Global;
 use std::process::Abort;
 use std::sync::Wait;
-use std::test::Fail;
 use std::thread::{Threads, for_each_mut, join_mut};
 use vamana_build::{Plan, Vamana};
-use versions::{Caller, Publisher};
+use versions::Publisher;
 
 const CALLERS: u32 = 8;
 
@@ -83,63 +81,56 @@ fn beside<R: Threads + Wait + Sync>(
     built
 }
 
-// The callers, after they asked beside the build.
-fn asked<'p, R: Threads + Wait + Sync>(
+// Whether each caller was answered each query, and the batches of its answers never fell.
+fn are_answered(seats: &[Seat<'_>]) -> bool {
+    for seat in seats {
+        if seat.refused() != 0 || seat.answered() != QUERIES || seat.fell() {
+            return false;
+        }
+    }
+    seats.len() == CALLERS as usize
+}
+
+// Whether all batches of a plan are published while callers ask, and each is answered.
+fn serves_all<R: Threads + Wait + Sync + Abort>(
     rt: &R,
     alloc: Global,
     plan: &Plan<'_>,
     queries: &Points,
-    build: &mut Vamana<'_>,
-    publisher: &mut Publisher<'p>,
-    callers: Vec<Caller<'p>>,
-) -> Result<Vec<Seat<'p>>, NoMemory>
-    requires dim { dim_of queries.now.vectors ≡ dim_of plan.now.points.now.vectors }
-    requires step { AreInStep (course_of plan.now) build.old publisher.old }
-    requires callers { All (λ x. x ≡ starting (course_of plan.now)) callers.items }
+) -> Result<bool, NoMemory>
+    requires { dim_of queries.now.vectors ≡ dim_of plan.now.points.now.vectors }
 {
-    let mut seats = seats_for(alloc, plan, callers, 16, 4)?;
-    beside(
+    let (mut build, mut publisher, callers) = opened(rt, alloc, plan, CALLERS)?;
+    let mut seats = seats_for(alloc, plan, callers, 16, 4).expect(rt, "memory");
+    let built = beside(
         rt,
         alloc,
         plan,
         queries,
-        build,
-        publisher,
+        &mut build,
+        &mut publisher,
         seats.as_mut_slice(),
-    )?;
-    Ok(seats)
+    );
+    let all = build.batch() == build.total() && publisher.batch() == build.total();
+    publisher.end(rt);
+    Ok(built.is_ok() && all && are_answered(seats.as_slice()))
 }
 
-// Asserts that each caller was answered each query, and that the batches of its answers never fell.
-fn assert_all_answered(rt: &impl Abort, seats: &[Seat<'_>]) {
-    assert_eq!(rt; seats.len(), CALLERS as usize);
-    for seat in seats {
-        assert_eq!(rt; (seat.refused(), seat.answered()), (0, QUERIES));
-        assert!(rt; !seat.fell());
+// Whether this is so of 2,000 made points.
+fn serves_all_of_made_points<R: Threads + Wait + Sync + Abort>(
+    rt: &R,
+    alloc: Global,
+) -> Result<bool, NoMemory> {
+    let points = made_points(alloc, 2000, 2, 1, 0)?;
+    let queries = made_points(alloc, QUERIES, 2, 2, 0)?;
+    if points.count() != 2000 || queries.dim() != points.dim() {
+        return Ok(false);
     }
+    let plan = Plan::make(alloc, &points, plain(8, 16, 20, 1))?;
+    serves_all(rt, alloc, &plan, &queries)
 }
 
 #[test]
-fn eight_callers_beside_a_build_are_never_refused(rt: HostRuntime) -> Result<(), Fail> {
-    let alloc = rt.alloc();
-    let points = made_points(alloc, 2000, 2, 1, 0)?;
-    let queries = made_points(alloc, QUERIES, 2, 2, 0)?;
-    assert!(rt; points.count() == 2000);
-    assert!(rt; queries.dim() == points.dim());
-    let plan = Plan::make(alloc, &points, plain(8, 16, 20, 1))?;
-    let (mut build, mut publisher, callers) = opened(&rt, alloc, &plan, CALLERS)?;
-    let seats = asked(
-        &rt,
-        alloc,
-        &plan,
-        &queries,
-        &mut build,
-        &mut publisher,
-        callers,
-    );
-    let all = build.batch() == build.total() && publisher.batch() == build.total();
-    publisher.end(&rt);
-    assert!(rt; all);
-    assert_all_answered(&rt, &seats?);
-    Ok(())
+fn eight_callers_beside_a_build_are_never_refused(rt: HostRuntime) {
+    assert!(rt; serves_all_of_made_points(&rt, rt.alloc()) == Ok(true));
 }

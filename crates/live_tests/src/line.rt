@@ -1,5 +1,6 @@
 //! The line of four points whose build is worked out by hand.
-ghost use Rattle.std.specs.Prelude.{◌≡◌, Some};
+ghost use Rattle.std.specs.Prelude.{◌≡◌, IfOk, Some, length};
+ghost use Rattle.ann_defs.specs.Distance.{dim_of};
 
 use ann_defs::Near;
 use ann_shelf::NoMemory;
@@ -8,7 +9,10 @@ use std::alloc::Global;
 use vamana_build::{Alpha, OrderKind, StartKind, VamanaSettings};
 
 // The points 0, 10, 20 and 30.
-pub(crate) fn line(alloc: Global) -> Result<Points, NoMemory> {
+pub(crate) fn line(alloc: Global) -> Result<Points, NoMemory>
+    ensures count { IfOk result (λ p. length p.vectors ≡ 4) }
+    ensures dim { IfOk result (λ p. dim_of p.vectors ≡ 1) }
+{
     Ok(Points::from_bytes(1, vec![in alloc; 0u8, 10, 20, 30]?))
 }
 

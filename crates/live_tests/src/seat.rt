@@ -1,5 +1,5 @@
 //! A caller with its room, and what was noticed of its answers.
-ghost use Rattle.std.specs.Prelude.{◌≡◌, ◌≤◌, length, IfOk, IfSome};
+ghost use Rattle.std.specs.Prelude.{◌≡◌, ◌≤◌, length, IfOk};
 ghost use Rattle.std.specs.List.{All};
 ghost use Rattle.ann_defs.specs.declared.limits.TheConstants.{MAX_BEAM, MAX_CALLERS};
 ghost use Rattle.ann_defs.specs.Distance.{dim_of};
@@ -140,23 +140,4 @@ pub(crate) fn seats_for<'p>(
         seats.push(Seat::new(alloc, plan, caller, beam, k)?)?;
     }
     Ok(seats)
-}
-
-/// The seat of the only caller. There is one.
-pub(crate) fn seat_for<'p>(
-    alloc: Global,
-    plan: &Plan<'_>,
-    mut callers: Vec<Caller<'p>>,
-    beam: u32,
-    k: u32,
-) -> Result<Option<Seat<'p>>, NoMemory>
-    requires callers { All (λ x. x ≡ starting (course_of plan.now)) callers.items }
-    requires beam { (1 ≤ beam) × (beam ≤ MAX_BEAM) }
-    requires k { (1 ≤ k) × (k ≤ beam) }
-    ensures { IfOk result (λ o. IfSome o (CanAsk (course_of plan.now) beam k)) }
-{
-    let Some(caller) = callers.pop() else {
-        return Ok(None);
-    };
-    Ok(Some(Seat::new(alloc, plan, caller, beam, k)?))
 }

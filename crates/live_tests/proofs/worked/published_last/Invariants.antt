@@ -1,7 +1,7 @@
 use Rattle.std.proofs.Common.{◌≡◌}
 use Rattle.versions.specs.Course.{course_of}
 use Rattle.live_tests.specs.InStep.{AreInStep}
-use Rattle.live_tests.proofs.worked.told_of_the_second_pass.Given as goal
+use Rattle.live_tests.proofs.worked.published_last.Given as goal
 
 abbrev pub invariant-loop : goal.invariant-loop
 invariant-loop g l = record {
