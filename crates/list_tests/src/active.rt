@@ -70,6 +70,21 @@ fn grown<R: Threads + Sync>(
     Ok(lists)
 }
 
+// A round over lists: how many entries it changes, and how many tasks it begins.
+fn counted<R: Threads + Sync>(
+    rt: &R,
+    alloc: Global,
+    points: &Points,
+    lists: &mut Lists,
+) -> Result<(u64, u64), NoMemory>
+    requires { BelongTo points.now.vectors lists.old }
+    ensures { BelongTo points.now.vectors lists.new }
+{
+    let gate = Counting::new();
+    let changed = lists.round(rt, alloc, points, &mut SerialRounds::new(), &gate)?;
+    Ok((changed, gate.tasks()))
+}
+
 // Ten rounds over lists, each compared with the one from scratch. Returns how many tasks each began.
 fn tasks_of_rounds<R: Threads + Sync + Abort>(
     rt: &R,
@@ -85,11 +100,10 @@ fn tasks_of_rounds<R: Threads + Sync + Abort>(
     let mut around = arounds(alloc, points, &rows, list)?;
     let mut due = u64::from(points.count());
     for r in 0..10usize {
-        let gate = Counting::new();
-        let count = lists.round(rt, alloc, points, &mut SerialRounds::new(), &gate)?;
+        let (count, begun) = counted(rt, alloc, points, lists)?;
         let new = rows_of(alloc, lists)?;
         tasks[r] = due;
-        assert!(rt; gate.tasks() == due && count == changed(&rows, &new));
+        assert!(rt; begun == due && count == changed(&rows, &new));
         if due == 0 {
             assert!(rt; new.as_slice() == rows.as_slice());
             continue;
@@ -113,20 +127,34 @@ fn tasks_of_rounds<R: Threads + Sync + Abort>(
     Ok(tasks)
 }
 
+// Whether a round of the planted lists begins a task for each point, and a second none.
+fn settles<R: Threads + Sync>(rt: &R, alloc: Global, points: &Points) -> Result<bool, NoMemory>
+    requires { length points.now.vectors ≡ 4 }
+{
+    let mut lists = planted(rt, alloc, points, &mut SerialRounds::new())?;
+    let first = counted(rt, alloc, points, &mut lists)?;
+    let second = counted(rt, alloc, points, &mut lists)?;
+    Ok(first == (0, 4) && second == (0, 0))
+}
+
 #[test]
 fn a_round_after_one_that_changed_nothing_begins_no_task(rt: HostRuntime) -> Result<(), Fail> {
-    let alloc = rt.alloc();
-    let mut pool = SerialRounds::new();
-    let points = line(alloc)?;
-    assert!(rt; points.count() == 4);
-    let mut lists = planted(&rt, alloc, &points, &mut pool)?;
-    let first = Counting::new();
-    let changed = lists.round(&rt, alloc, &points, &mut pool, &first)?;
-    assert!(rt; changed == 0 && first.tasks() == 4);
-    let second = Counting::new();
-    let changed = lists.round(&rt, alloc, &points, &mut pool, &second)?;
-    assert!(rt; changed == 0 && second.tasks() == 0);
+    let points = line(rt.alloc())?;
+    assert!(rt; settles(&rt, rt.alloc(), &points)?);
     Ok(())
+}
+
+// How many tasks ten rounds begin over lists of so many trees of a seed. Each is compared with the one from scratch.
+fn tasks_of<R: Threads + Sync + Abort>(
+    rt: &R,
+    alloc: Global,
+    seed: u64,
+    trees: u32,
+) -> Result<[u64; 10], NoMemory> {
+    let points = made_points(alloc, POINTS, 2, seed, 0)?;
+    assert!(rt; points.count() == POINTS);
+    let mut lists = grown(rt, alloc, &points, seed, trees)?;
+    tasks_of_rounds(rt, alloc, &points, &mut lists)
 }
 
 // Rounds over lists of two trees compute the active points, for some seeds.
@@ -136,10 +164,7 @@ fn assert_seeds<R: Threads + Sync + Abort>(
     seeds: &[u64],
 ) -> Result<(), NoMemory> {
     for seed in seeds {
-        let points = made_points(alloc, POINTS, 2, *seed, 0)?;
-        assert!(rt; points.count() == POINTS);
-        let mut lists = grown(rt, alloc, &points, *seed, 2)?;
-        let tasks = tasks_of_rounds(rt, alloc, &points, &mut lists)?;
+        let tasks = tasks_of(rt, alloc, *seed, 2)?;
         // Counted by a program that follows the definitions step by step.
         if *seed == 1 {
             assert!(rt; tasks == [2000, 1518, 779, 383, 117, 34, 10, 0, 0, 0]);
@@ -176,11 +201,7 @@ fn rounds_compute_the_active_points_of_seeds_9_and_10(rt: HostRuntime) -> Result
 // The leaves of one tree part the points, so no list leaves its leaf.
 #[test]
 fn lists_of_one_tree_are_settled_after_one_round(rt: HostRuntime) -> Result<(), Fail> {
-    let alloc = rt.alloc();
-    let points = made_points(alloc, POINTS, 2, 1, 0)?;
-    assert!(rt; points.count() == POINTS);
-    let mut lists = grown(&rt, alloc, &points, 1, 1)?;
-    let tasks = tasks_of_rounds(&rt, alloc, &points, &mut lists)?;
+    let tasks = tasks_of(&rt, rt.alloc(), 1, 1)?;
     assert!(rt; tasks == [2000, 0, 0, 0, 0, 0, 0, 0, 0, 0]);
     Ok(())
 }

@@ -10,12 +10,13 @@ use neighbour_lists::Lists;
 use nn_descent::{NndSettings, build_nnd, search_graph};
 use pivot_trees::Tree;
 use std::alloc::Global;
-use std::test::Fail;
 use std::thread::Threads;
 use steal_pool::{RayonRounds, Rounds, SerialRounds, StealRounds};
 
 // The points 0, 10, 20 and 30.
-pub(crate) fn line(alloc: Global) -> Result<Points, NoMemory> {
+pub(crate) fn line(alloc: Global) -> Result<Points, NoMemory>
+    ensures { IfOk result (λ p. length p.vectors ≡ 4) }
+{
     Ok(Points::from_bytes(1, vec![in alloc; 0u8, 10, 20, 30]?))
 }
 
@@ -33,19 +34,6 @@ pub(crate) fn planted<R: Threads + Sync, P: Rounds>(
     let mut lists = Lists::empty(alloc, points, 2)?;
     lists.add_leaves(rt, alloc, points, &tree, pool, &FreeGate)?;
     Ok(lists)
-}
-
-// Whether these are the lists.
-fn has_lists(lists: &Lists, rows: &[&[u32]]) -> bool {
-    if lists.count() as usize != rows.len() {
-        return false;
-    }
-    for (id, row) in rows.iter().enumerate() {
-        if lists.row(id as u32) != *row {
-            return false;
-        }
-    }
-    true
 }
 
 // Whether these are the rows of a graph.
@@ -79,6 +67,37 @@ const SETTINGS: NndSettings = NndSettings {
     floor: 0,
 };
 
+// Whether a round over a pool leaves the lists as they were worked out.
+fn stays<R: Threads + Sync, P: Rounds>(
+    rt: &R,
+    alloc: Global,
+    points: &Points,
+    lists: &mut Lists,
+    pool: &mut P,
+) -> Result<bool, NoMemory>
+    requires { BelongTo points.now.vectors lists.old }
+    ensures { BelongTo points.now.vectors lists.new }
+{
+    let before = has_rows(lists.rows(), &LISTS);
+    let changed = lists.round(rt, alloc, points, pool, &FreeGate)?;
+    Ok(before && changed == 0 && has_rows(lists.rows(), &LISTS))
+}
+
+// Whether the search graph of lists over a pool is the one worked out.
+fn leads<R: Threads + Sync, P: Rounds>(
+    rt: &R,
+    alloc: Global,
+    points: &Points,
+    lists: &Lists,
+    pool: &mut P,
+) -> Result<bool, NoMemory>
+    requires four { length points.now.vectors ≡ 4 }
+    requires belong { BelongTo points.now.vectors lists.now }
+{
+    let graph = search_graph(rt, alloc, points, lists, 2, EVEN, pool, &FreeGate)?;
+    Ok(has_rows(&graph, &ROWS))
+}
+
 // Whether the lists of the line, a round of them and their search graph over a pool are those worked out.
 fn lists_line<R: Threads + Sync, P: Rounds>(
     rt: &R,
@@ -89,10 +108,8 @@ fn lists_line<R: Threads + Sync, P: Rounds>(
     requires { length points.now.vectors ≡ 4 }
 {
     let mut lists = planted(rt, alloc, points, pool)?;
-    let before = has_lists(&lists, &LISTS);
-    let changed = lists.round(rt, alloc, points, pool, &FreeGate)?;
-    let graph = search_graph(rt, alloc, points, &lists, 2, EVEN, pool, &FreeGate)?;
-    Ok(before && changed == 0 && has_lists(&lists, &LISTS) && has_rows(&graph, &ROWS))
+    let stays = stays(rt, alloc, points, &mut lists, pool)?;
+    Ok(leads(rt, alloc, points, &lists, pool)? && stays)
 }
 
 // Whether the whole build over a pool gives the index of the line.
@@ -121,17 +138,13 @@ fn is_line<R: Threads + Sync, P: Rounds>(
     pool: &mut P,
 ) -> Result<bool, NoMemory> {
     let points = line(alloc)?;
-    if points.count() != 4 {
-        return Ok(false);
-    }
     Ok(lists_line(rt, alloc, &points, pool)? && builds_line(rt, alloc, &points, pool)?)
 }
 
 #[test]
-fn each_pool_gives_the_lists_and_the_rows_of_the_line(rt: HostRuntime) -> Result<(), Fail> {
+fn each_pool_gives_the_lists_and_the_rows_of_the_line(rt: HostRuntime) {
     let alloc = rt.alloc();
-    assert!(rt; is_line(&rt, alloc, &mut SerialRounds::new())?);
-    assert!(rt; is_line(&rt, alloc, &mut RayonRounds::new(2))?);
-    assert!(rt; is_line(&rt, alloc, &mut StealRounds::new(3))?);
-    Ok(())
+    assert!(rt; is_line(&rt, alloc, &mut SerialRounds::new()) == Ok(true));
+    assert!(rt; is_line(&rt, alloc, &mut RayonRounds::new(2)) == Ok(true));
+    assert!(rt; is_line(&rt, alloc, &mut StealRounds::new(3)) == Ok(true));
 }

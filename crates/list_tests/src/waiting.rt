@@ -1,9 +1,14 @@
 //! A round's tasks that wait for each other's beginning.
+ghost use Rattle.neighbour_lists.specs.Held.{BelongTo};
+
 use crate::line::{line, planted};
-use ann_shelf::Gate;
+use ann_shelf::{Gate, NoMemory};
+use bin_files::Points;
+use neighbour_lists::Lists;
+use std::alloc::Global;
 use std::sync::atomic::{AtomicU64, Ordering};
 use std::test::Fail;
-use std::thread;
+use std::thread::{self, Threads};
 use steal_pool::StealRounds;
 
 // How often a task looks for one of the other worker, before it gives up.
@@ -41,20 +46,28 @@ impl Gate for OtherGate {
     fn answer(&self, _query: u32) {}
 }
 
-#[test]
-fn two_workers_compute_lists_at_once(rt: HostRuntime) -> Result<(), Fail> {
-    let alloc = rt.alloc();
-    let points = line(alloc)?;
-    assert!(rt; points.count() == 4);
-    let mut pool = StealRounds::new(2);
-    let mut lists = planted(&rt, alloc, &points, &mut pool)?;
+// Whether a round of the lists by two workers changes nothing, and neither waits in vain.
+fn is_computed_at_once<R: Threads + Sync>(
+    rt: &R,
+    alloc: Global,
+    points: &Points,
+    lists: &mut Lists,
+) -> Result<bool, NoMemory>
+    requires { BelongTo points.now.vectors lists.old }
+{
     let gate = OtherGate {
         begun: [AtomicU64::new(0), AtomicU64::new(0)],
         tasks: AtomicU64::new(0),
         late: AtomicU64::new(0),
     };
-    let changed = lists.round(&rt, alloc, &points, &mut pool, &gate)?;
-    assert!(rt; changed == 0);
-    assert!(rt; gate.late.load(Ordering::SeqCst) == 0);
+    let changed = lists.round(rt, alloc, points, &mut StealRounds::new(2), &gate)?;
+    Ok(changed == 0 && gate.late.load(Ordering::SeqCst) == 0)
+}
+
+#[test]
+fn two_workers_compute_lists_at_once(rt: HostRuntime) -> Result<(), Fail> {
+    let points = line(rt.alloc())?;
+    let mut lists = planted(&rt, rt.alloc(), &points, &mut StealRounds::new(2))?;
+    assert!(rt; is_computed_at_once(&rt, rt.alloc(), &points, &mut lists)?);
     Ok(())
 }
