@@ -4,7 +4,11 @@
 #![tactic(auto)]
 
 #[cfg(test)]
+mod builds;
+#[cfg(test)]
 mod by_clap;
+#[cfg(test)]
+mod commands;
 #[cfg(test)]
 mod lines;
 #[cfg(test)]

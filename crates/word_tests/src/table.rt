@@ -6,7 +6,7 @@ use command_options::{
 };
 
 /// Commands and kinds of index, and how many names and options they have.
-const SHAPES: [(Verb, Kind, usize, usize); 16] = [
+static SHAPES: [(Verb, Kind, usize, usize); 16] = [
     (Verb::Build, Kind::Vamana, 2, 13),
     (Verb::Build, Kind::Hnsw, 2, 12),
     (Verb::Build, Kind::Nnd, 2, 14),
@@ -33,11 +33,16 @@ fn options_of(verb: Verb, kind: Kind) -> usize {
         .count()
 }
 
+/// Whether a command has so many names, and so many options for a kind of index.
+fn has_shape(verb: Verb, kind: Kind, names: usize, options: usize) -> bool {
+    roles_of(verb).len() == names && options_of(verb, kind) == options
+}
+
 #[test]
 fn shapes_of_all_commands(rt: HostRuntime) {
-    for (verb, kind, names, options) in SHAPES {
+    for (verb, kind, names, options) in &SHAPES {
         assert!(rt;
-            (roles_of(verb).len(), options_of(verb, kind)) == (names, options),
+            has_shape(*verb, *kind, *names, *options),
             "{verb:?} {kind:?}"
         );
     }
@@ -52,7 +57,7 @@ fn default_number(verb: Verb, kind: Kind, option: OptionName) -> Option<u64> {
 }
 
 /// Commands, kinds of index and options, and the defaults that are numbers.
-const DEFAULTS: [(Verb, Kind, OptionName, Option<u64>); 6] = [
+static DEFAULTS: [(Verb, Kind, OptionName, Option<u64>); 6] = [
     (Verb::Build, Kind::Vamana, OptionName::Degree, Some(64)),
     (Verb::Build, Kind::Hnsw, OptionName::Degree, Some(16)),
     (Verb::Trial, Kind::Hnsw, OptionName::Degree, Some(16)),
@@ -63,9 +68,9 @@ const DEFAULTS: [(Verb, Kind, OptionName, Option<u64>); 6] = [
 
 #[test]
 fn defaults_by_command_and_kind(rt: HostRuntime) {
-    for (verb, kind, option, number) in DEFAULTS {
+    for (verb, kind, option, number) in &DEFAULTS {
         assert!(rt;
-            default_number(verb, kind, option) == number,
+            default_number(*verb, *kind, *option) == *number,
             "{verb:?} {kind:?}"
         );
     }
