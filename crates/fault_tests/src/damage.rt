@@ -1,13 +1,13 @@
 //! Damaged files, each with the status and the line that it gets.
-use annbuild_commands::{Fault, Role, Rule};
-use bin_files::PointsRule;
-use graph_files::IndexRule;
-use top_calls::{FOUR, FOUR_BY_FOUR, FOUR_IN_TWO_LAYERS, NONE, Outcome, call};
+use std::alloc::Global;
+use std::sync::Wait;
+use std::thread::Threads;
+use top_calls::{FOUR, FOUR_BY_FOUR, FOUR_IN_TWO_LAYERS, tells};
 
-/// A word of a file that is replaced by another, the status, and the line.
+/// The place of a word in a file, the word that it becomes, the status, and the line.
 type Edit = (usize, u32, u8, &'static [u8]);
 
-const OF_FOUR_BY_FOUR: [Edit; 15] = [
+static OF_FOUR_BY_FOUR: [Edit; 15] = [
     (
         0,
         0x4e4e4151,
@@ -85,7 +85,7 @@ const OF_FOUR_BY_FOUR: [Edit; 15] = [
     ),
 ];
 
-const OF_TWO_LAYERS: [Edit; 7] = [
+static OF_TWO_LAYERS: [Edit; 7] = [
     (
         48,
         1,
@@ -131,7 +131,7 @@ const OF_TWO_LAYERS: [Edit; 7] = [
     ),
 ];
 
-const OF_POINTS: [Edit; 6] = [
+static OF_POINTS: [Edit; 6] = [
     (
         0,
         0,
@@ -165,11 +165,8 @@ const OF_POINTS: [Edit; 6] = [
     (4, 2_049, 9, b"annbuild: dim is 2049, limit 2048\n"),
 ];
 
-/// The room of the files here.
-type Copied = [u8; 80];
-
 /// A copy of a file of at most 80 bytes, with a word replaced.
-fn edited(file: &[u8], place: usize, word: u32) -> Copied {
+fn edited(file: &[u8], place: usize, word: u32) -> [u8; 80] {
     let mut copy = [0u8; 80];
     for (cell, byte) in copy.iter_mut().zip(file) {
         *cell = *byte;
@@ -180,30 +177,36 @@ fn edited(file: &[u8], place: usize, word: u32) -> Copied {
     copy
 }
 
-/// Whether a run was refused with this status and line, and left its files alone.
-fn is_refused(ended: &Outcome, files: &[(&str, &[u8])], code: u8, line: &[u8]) -> bool {
-    let same = files
-        .iter()
-        .all(|(name, bytes)| ended.shelf.bytes(name) == Some(*bytes));
-    same && ended.status.code == code && ended.err.bytes() == line && ended.out.bytes().is_empty()
+/// Whether an index with a word replaced is refused as its row says, and leaves its files.
+fn is_damaged<R: Threads + Wait + Sync>(rt: &R, alloc: Global, index: &[u8], edit: Edit) -> bool {
+    let (place, word, code, line) = edit;
+    let copy = edited(index, place, word);
+    match copy.get(..index.len()) {
+        Some(damaged) => {
+            let files = [("pts", FOUR), ("ann", damaged)];
+            tells(rt, alloc, "check pts ann", &files, code, line, &files)
+        }
+        None => false,
+    }
 }
 
 #[test]
 fn a_damaged_index_is_refused_with_its_rule_and_place(rt: HostRuntime) {
-    let tables = [
-        (FOUR_BY_FOUR, OF_FOUR_BY_FOUR.as_slice()),
-        (FOUR_IN_TWO_LAYERS, OF_TWO_LAYERS.as_slice()),
-    ];
-    for (file, table) in tables {
-        for (place, word, code, line) in table {
-            let copy = edited(file, *place, *word);
-            let files = [("pts", FOUR), ("ann", &copy[..file.len()])];
-            let ended = call(&rt, rt.alloc(), "check pts ann", &files, NONE).expect(&rt, "memory");
-            assert!(rt;
-                is_refused(&ended, &files, *code, line),
-                "{word} at {place}"
-            );
-        }
+    for edit in &OF_FOUR_BY_FOUR {
+        assert!(rt;
+            is_damaged(&rt, rt.alloc(), FOUR_BY_FOUR, *edit),
+            "{} at {}",
+            edit.1,
+            edit.0
+        );
+    }
+    for edit in &OF_TWO_LAYERS {
+        assert!(rt;
+            is_damaged(&rt, rt.alloc(), FOUR_IN_TWO_LAYERS, *edit),
+            "{} at {}",
+            edit.1,
+            edit.0
+        );
     }
 }
 
@@ -212,55 +215,34 @@ fn an_index_of_too_many_words_is_refused(rt: HostRuntime) {
     let counted = edited(FOUR_BY_FOUR, 12, 4_000_000);
     let widened = edited(&counted, 20, 128);
     let files = [("pts", FOUR), ("ann", widened.as_slice())];
-    let ended = call(&rt, rt.alloc(), "check pts ann", &files, NONE).expect(&rt, "memory");
-    let line = b"annbuild: words is 516000000, limit 134217728\n";
-    assert!(rt; is_refused(&ended, &files, 9, line));
+    let line = b"annbuild: words is 516000000, limit 134217728\n".as_slice();
+    assert!(rt; tells(&rt, rt.alloc(), "check pts ann", &files, 9, line, &files));
+}
+
+/// Commands that read points.
+static READERS: [&str; 3] = ["check pts ann", "build pts ann", "query pts ann none"];
+
+/// Whether each command over points with a word replaced is refused as their row says.
+fn are_damaged<R: Threads + Wait + Sync>(rt: &R, alloc: Global, edit: Edit) -> bool {
+    let (place, word, code, line) = edit;
+    let copy = edited(FOUR, place, word);
+    let files = [("pts", &copy[..12]), ("ann", FOUR_BY_FOUR)];
+    for words in &READERS {
+        if !tells(rt, alloc, words, &files, code, line, &files) {
+            return false;
+        }
+    }
+    true
 }
 
 #[test]
 fn damaged_points_are_refused_with_their_rule_and_place(rt: HostRuntime) {
-    for (place, word, code, line) in OF_POINTS {
-        let copy = edited(FOUR, place, word);
-        let files = [("pts", &copy[..12]), ("ann", FOUR_BY_FOUR)];
-        for words in ["check pts ann", "build pts ann", "query pts ann none"] {
-            let ended = call(&rt, rt.alloc(), words, &files, NONE).expect(&rt, "memory");
-            assert!(rt; is_refused(&ended, &files, code, line), "{word} at {place}");
-        }
-    }
-}
-
-#[test]
-fn a_cut_file_is_refused_where_it_ends(rt: HostRuntime) {
-    for cut in 0..FOUR_IN_TWO_LAYERS.len() {
-        let files = [("pts", FOUR), ("ann", &FOUR_IN_TWO_LAYERS[..cut])];
-        let ended = call(&rt, rt.alloc(), "check pts ann", &files, NONE).expect(&rt, "memory");
-        let rule = if cut < 32 {
-            IndexRule::ShortHeader
-        } else {
-            IndexRule::Short
-        };
-        let fault = Fault::Malformed {
-            file: Role::Index,
-            place: cut as u64,
-            rule: Rule::Index(rule),
-        };
-        assert!(rt; ended.status.fault == Some(fault), "cut at {cut}");
-        assert_eq!(rt; ended.status.code, 5, "cut at {cut}");
-    }
-    for cut in 0..FOUR.len() {
-        let files = [("pts", &FOUR[..cut]), ("ann", FOUR_BY_FOUR)];
-        let ended = call(&rt, rt.alloc(), "check pts ann", &files, NONE).expect(&rt, "memory");
-        let rule = if cut < 8 {
-            PointsRule::ShortHeader
-        } else {
-            PointsRule::ShortBody
-        };
-        let fault = Fault::Malformed {
-            file: Role::Base,
-            place: cut as u64,
-            rule: Rule::Points(rule),
-        };
-        assert!(rt; ended.status.fault == Some(fault), "cut at {cut}");
-        assert_eq!(rt; ended.status.code, 5, "cut at {cut}");
+    for edit in &OF_POINTS {
+        assert!(rt;
+            are_damaged(&rt, rt.alloc(), *edit),
+            "{} at {}",
+            edit.1,
+            edit.0
+        );
     }
 }

@@ -1,7 +1,6 @@
 //! One allocation that fails. In a run of the tests none does; `rt try --test --fail-alloc N` makes the Nth of each test
 //! fail, and `tests/refused_memory.sh` each in turn. Where that one is the test's own, for the files in memory or the words,
 //! nothing is called.
-use ann_shelf::NoMemory;
 use annbuild_commands::Fault;
 use std::alloc::Global;
 use std::sync::Wait;
@@ -25,52 +24,53 @@ fn is_left(run: &Run, ended: &Outcome) -> bool {
         && (run.is_stored(ended) || run.is_untouched(ended) && out.is_empty())
 }
 
-/// Whether a run is done, or ends with want of memory and what that may leave.
-fn is_lawful(run: &Run, ended: &Result<Outcome, NoMemory>) -> bool {
-    match ended {
-        Ok(ended) => run.is_done(ended) || is_left(run, ended),
-        Err(_) => true,
+/// Whether a run is done; none where it is neither that nor ends with want of memory and what that may leave. Where nothing is
+/// called it isn't done.
+fn is_done<R: Threads + Wait + Sync>(rt: &R, alloc: Global, run: &Run) -> Option<bool> {
+    match run.done(rt, alloc, NONE) {
+        Ok(ended) => {
+            let is_done = run.is_done(&ended);
+            (is_done || is_left(run, &ended)).then_some(is_done)
+        }
+        Err(_) => Some(false),
     }
 }
 
-/// Whether a run is done.
-fn is_whole(run: &Run, ended: &Result<Outcome, NoMemory>) -> bool {
-    match ended {
-        Ok(ended) => run.is_done(ended),
-        Err(_) => false,
-    }
+/// Whether a run that is made twice ends as it may. One allocation alone is refused, so that one of the two is done.
+fn is_lawful_twice<R: Threads + Wait + Sync>(rt: &R, alloc: Global, run: &Run) -> bool {
+    let first = is_done(rt, alloc, run);
+    let second = is_done(rt, alloc, run);
+    first.is_some() && second.is_some() && (first == Some(true) || second == Some(true))
 }
 
 #[test]
 fn each_run_that_wants_memory_leaves_all_as_it_was_or_a_whole_file(rt: HostRuntime) {
-    for run in RUNS {
-        let first = run.done(&rt, rt.alloc(), NONE);
-        let second = run.done(&rt, rt.alloc(), NONE);
-        assert!(rt; is_lawful(&run, &first), "{}", run.words);
-        assert!(rt; is_lawful(&run, &second), "{}", run.words);
-        // One allocation alone is refused.
-        assert!(rt;
-            is_whole(&run, &first) || is_whole(&run, &second),
-            "{}",
-            run.words
-        );
+    for run in &RUNS {
+        assert!(rt; is_lawful_twice(&rt, rt.alloc(), run), "{}", run.words);
     }
 }
 
-/// A session over more batches than one, whose lines are not decided. Whether it ends as it may.
+/// Whether a session ended as it may: done, or with want of memory and no index or a whole one.
+fn has_lived(ended: &Outcome) -> bool {
+    let index = ended.shelf.bytes("ann");
+    let out = ended.out.bytes();
+    let is_whole = index == Some(FOUR_BY_FOUR);
+    if wanted_memory(ended) {
+        is_whole || index.is_none() && out.is_empty()
+    } else {
+        ended.status.code == 0 && is_whole && out.starts_with(FOUR_LINE)
+    }
+}
+
+/// Whether a session over more batches than one, whose lines are not decided, ends as it may.
 fn lives<R: Threads + Wait + Sync>(rt: &R, alloc: Global) -> bool {
     let words =
         "live pts ann ask --order file --start first --degree 2 --beam 4 --alpha 1/1 --cap 4 --search 4 --k 1";
     let files = [("pts", FOUR), ("ask", ASKED)];
-    let Ok(ended) = call(rt, alloc, words, &files, NONE) else {
-        return true;
-    };
-    let index = ended.shelf.bytes("ann");
-    let out = ended.out.bytes();
-    if wanted_memory(&ended) {
-        return index.is_none() && out.is_empty() || index == Some(FOUR_BY_FOUR);
+    match call(rt, alloc, words, &files, NONE) {
+        Ok(ended) => has_lived(&ended),
+        Err(_) => true,
     }
-    ended.status.code == 0 && index == Some(FOUR_BY_FOUR) && out.starts_with(FOUR_LINE)
 }
 
 #[test]

@@ -5,6 +5,7 @@
 mod calls;
 mod files;
 mod runs;
+mod told;
 
 pub use calls::{Failing, NONE, Outcome, call, call_at, words_in};
 pub use files::{
@@ -12,3 +13,4 @@ pub use files::{
     FOUR_LINE, FOUR_STAMPED, FOUR_WIDE,
 };
 pub use runs::{ASKED, RUNS, Run};
+pub use told::{holds, tells};

@@ -34,7 +34,7 @@ const ONE: &[u8] = b"\x01\0\0\0\x01\0\0\0\x07";
 const OLD: &[u8] = b"an older index";
 
 /// The runs.
-pub const RUNS: [Run; 17] = [
+pub static RUNS: [Run; 17] = [
     Run {
         words: "build pts ann --order file --start first --degree 2 --beam 4 --alpha 1/1 --cap 4",
         pts: FOUR,
