@@ -1,14 +1,13 @@
 //! `build` from bytes to bytes: worked files, settings, pools and workers.
-use crate::told::tells;
 use ann_shelf::{FreeGate, MemOut, NoMemory, SoundShelf};
 use annbuild_commands::annbuild;
 use std::alloc::Global;
 use std::sync::Wait;
 use std::thread::Threads;
-use top_calls::{FOUR, FOUR_BY_FOUR, FOUR_BY_ONE, FOUR_LINE, FOUR_WIDE, words_in};
+use top_calls::{FOUR, FOUR_BY_FOUR, FOUR_BY_ONE, FOUR_LINE, FOUR_WIDE, tells, words_in};
 
 /// Words, the points that they build of, the index that they leave, and their line.
-const CASES: [(&str, &[u8], &[u8], &[u8]); 9] = [
+static CASES: [(&str, &[u8], &[u8], &[u8]); 9] = [
     // one point
     (
         "build pts ann",
@@ -71,20 +70,32 @@ const CASES: [(&str, &[u8], &[u8], &[u8]); 9] = [
     ),
 ];
 
+/// Whether a build of these points leaves this index, beside the points, and tells this line.
+fn is_built<R: Threads + Wait + Sync>(
+    rt: &R,
+    alloc: Global,
+    words: &str,
+    points: &[u8],
+    index: &[u8],
+    line: &[u8],
+) -> bool {
+    let files = [("pts", points)];
+    let after = [("ann", index), ("pts", points)];
+    tells(rt, alloc, words, &files, 0, line, &after)
+}
+
 #[test]
 fn worked_files_give_their_indexes(rt: HostRuntime) {
-    for (words, points, index, line) in CASES {
-        let files = [("pts", points)];
-        let after = [("ann", index), ("pts", points)];
+    for (words, points, index, line) in &CASES {
         assert!(rt;
-            tells(&rt, rt.alloc(), words, &files, 0, line, &after),
+            is_built(&rt, rt.alloc(), words, points, index, line),
             "{words}"
         );
     }
 }
 
 /// Words that differ in their pool and in the number of workers.
-const CHOICES: [&str; 10] = [
+static CHOICES: [&str; 10] = [
     "build pts ann --order file --start first --degree 2 --beam 4 --alpha 1/1 --cap 4 --pool serial --workers 1",
     "build pts ann --order file --start first --degree 2 --beam 4 --alpha 1/1 --cap 4 --pool serial --workers 64",
     "build pts ann --order file --start first --degree 2 --beam 4 --alpha 1/1 --cap 4 --pool rayon --workers 1",
@@ -101,7 +112,7 @@ const CHOICES: [&str; 10] = [
 fn every_pool_and_number_of_workers_gives_the_same_index(rt: HostRuntime) {
     let files = [("pts", FOUR)];
     let after = [("ann", FOUR_BY_FOUR)];
-    for words in CHOICES {
+    for words in &CHOICES {
         assert!(rt;
             tells(&rt, rt.alloc(), words, &files, 0, FOUR_LINE, &after),
             "{words}"

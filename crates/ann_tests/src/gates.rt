@@ -1,12 +1,11 @@
 //! What a gate sees: batches and tasks.
 use crate::on_a_line::line_of;
-use crate::told::holds;
 use ann_shelf::{Gate, NoMemory};
 use std::alloc::Global;
 use std::sync::Wait;
 use std::sync::atomic::{AtomicU64, Ordering};
 use std::thread::Threads;
-use top_calls::{FOUR, FOUR_BY_FOUR, NONE, call_at};
+use top_calls::{FOUR, FOUR_BY_FOUR, NONE, call_at, holds};
 
 /// A gate that counts. The numbers of the batches stand behind one another, a decimal digit each.
 #[derive(Drop)]
@@ -41,7 +40,7 @@ impl Gate for Counting {
 }
 
 /// Builds of [`FOUR_BY_FOUR`] over each pool.
-const BUILDS: [&str; 3] = [
+static BUILDS: [&str; 3] = [
     "build pts ann --order file --start first --degree 2 --beam 4 --alpha 1/1 --cap 4 --pool steal --workers 2",
     "build pts ann --order file --start first --degree 2 --beam 4 --alpha 1/1 --cap 4 --pool serial",
     "build pts ann --order file --start first --degree 2 --beam 4 --alpha 1/1 --cap 4 --pool rayon --workers 2",
@@ -69,7 +68,7 @@ fn counted<R: Threads + Wait + Sync>(
 #[test]
 fn the_gate_is_told_of_each_batch_and_each_task(rt: HostRuntime) {
     // Batches of 1, 1 and 2 points have as many new rows, and 0, 1 and 1 rows that are merged.
-    for words in BUILDS {
+    for words in &BUILDS {
         assert!(rt;
             counted(&rt, rt.alloc(), words, &[("pts", FOUR)]) == Some((123, 6)),
             "{words}"

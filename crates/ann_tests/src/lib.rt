@@ -10,6 +10,8 @@ mod gates;
 #[cfg(test)]
 mod live;
 #[cfg(test)]
+mod live_ends;
+#[cfg(test)]
 mod live_gates;
 #[cfg(test)]
 mod made;
@@ -25,7 +27,5 @@ mod query;
 mod signed;
 #[cfg(test)]
 mod stamps;
-#[cfg(test)]
-mod told;
 #[cfg(test)]
 mod waiting;

@@ -1,10 +1,9 @@
 //! `make`, `trial` and `check`: made points, a large run over each pool, and an index that is checked.
-use crate::told::tells;
 use ann_shelf::NoMemory;
 use std::alloc::Global;
 use std::sync::Wait;
 use std::thread::Threads;
-use top_calls::{FOUR, FOUR_BY_FOUR, NONE, call};
+use top_calls::{FOUR, FOUR_BY_FOUR, NONE, call, tells};
 
 /// Three points of five bytes: the generator's first fifteen bytes for seed 7.
 const THREE: &[u8] =
@@ -82,7 +81,7 @@ fn a_checked_index_is_told(rt: HostRuntime) {
 }
 
 /// A byte of the file, what it becomes, and the line that is told.
-const CHANGED: [(usize, u8, &[u8]); 5] = [
+static CHANGED: [(usize, u8, &[u8]); 5] = [
     (
         48,
         0,
@@ -102,16 +101,27 @@ const CHANGED: [(usize, u8, &[u8]); 5] = [
     (0, 81, b"annbuild: index is malformed at byte 0: magic\n"),
 ];
 
+/// Whether the index with this byte is refused with this line.
+fn is_changed<R: Threads + Wait + Sync>(
+    rt: &R,
+    alloc: Global,
+    place: usize,
+    byte: u8,
+    line: &[u8],
+) -> bool {
+    let mut index = [0u8; 68];
+    index.copy_from_slice(FOUR_BY_FOUR);
+    if let Some(cell) = index.get_mut(place) {
+        *cell = byte;
+    }
+    is_checked(rt, alloc, FOUR, index.as_slice(), 5, line)
+}
+
 #[test]
 fn a_changed_index_is_not_told(rt: HostRuntime) {
-    for (place, byte, line) in CHANGED {
-        let mut index = [0u8; 68];
-        index.copy_from_slice(FOUR_BY_FOUR);
-        if let Some(cell) = index.get_mut(place) {
-            *cell = byte;
-        }
+    for (place, byte, line) in &CHANGED {
         assert!(rt;
-            is_checked(&rt, rt.alloc(), FOUR, index.as_slice(), 5, line),
+            is_changed(&rt, rt.alloc(), *place, *byte, line),
             "{byte} at {place}"
         );
     }

@@ -47,9 +47,9 @@ pub(crate) fn answered<R: Threads + Wait + Sync, G: Gate + Sync>(
     pool: &str,
     gate: &G,
 ) -> Result<Outcome, NoMemory> {
+    let build = built(rt, alloc, "serial", &FreeGate)?;
     let points = line_of(alloc, 128)?;
     let asked = line_of(alloc, 64)?;
-    let build = built(rt, alloc, "serial", &FreeGate)?;
     let index = build.shelf.bytes("ann").unwrap_or(&[]);
     let words = format!(in alloc; "query pts ann ask --workers 2 --pool {pool}")?;
     let files = [

@@ -99,7 +99,7 @@ impl Gate for Noting {
 }
 
 /// One loop: each task is the one worker's. Fixed shares: each worker has its half.
-const FIXED: [(&str, [u64; 4]); 2] = [("serial", [1, 1, 1, 1]), ("rayon", [1, 1, 2, 2])];
+static FIXED: [(&str, [u64; 4]); 2] = [("serial", [1, 1, 1, 1]), ("rayon", [1, 1, 2, 2])];
 
 /// A build where the batch is other than 0, else queries.
 fn done<R: Threads + Wait + Sync>(
@@ -142,9 +142,9 @@ fn are_stolen<R: Threads + Wait + Sync>(rt: &R, alloc: Global, from: u32) -> boo
 
 #[test]
 fn the_pool_asked_for_is_the_pool_that_builds(rt: HostRuntime) {
-    for (pool, workers) in FIXED {
+    for (pool, workers) in &FIXED {
         assert!(rt;
-            workers_of(&rt, rt.alloc(), pool, LAST, false) == Some(workers),
+            workers_of(&rt, rt.alloc(), pool, LAST, false) == Some(*workers),
             "{pool}"
         );
     }
@@ -153,9 +153,9 @@ fn the_pool_asked_for_is_the_pool_that_builds(rt: HostRuntime) {
 
 #[test]
 fn the_pool_asked_for_is_the_pool_that_answers(rt: HostRuntime) {
-    for (pool, workers) in FIXED {
+    for (pool, workers) in &FIXED {
         assert!(rt;
-            workers_of(&rt, rt.alloc(), pool, 0, false) == Some(workers),
+            workers_of(&rt, rt.alloc(), pool, 0, false) == Some(*workers),
             "{pool}"
         );
     }

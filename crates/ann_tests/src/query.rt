@@ -1,14 +1,16 @@
 //! `query`: worked answers, files that don't fit together, and lines that are written in pieces.
-use crate::told::tells;
 use ann_shelf::NoMemory;
 use annbuild_commands::{Fault, Role};
 use std::alloc::Global;
 use std::sync::Wait;
 use std::thread::Threads;
-use top_calls::{FOUR, FOUR_BY_FOUR, FOUR_BY_ONE, Failing, NONE, call};
+use top_calls::{FOUR, FOUR_BY_FOUR, FOUR_BY_ONE, Failing, NONE, call, tells};
+
+/// The words of a query with the default settings.
+const WORDS: &str = "query pts ann ask";
 
 /// Words, the index and the queries that they are over, and their lines.
-const WORKED: [(&str, &[u8], &[u8], &[u8]); 6] = [
+static WORKED: [(&str, &[u8], &[u8], &[u8]); 6] = [
     (
         "query pts ann ask --search 4 --k 2",
         FOUR_BY_FOUR,
@@ -50,19 +52,33 @@ const WORKED: [(&str, &[u8], &[u8], &[u8]); 6] = [
     ),
 ];
 
+/// Whether a query of these files ends with this code and these lines, and leaves its files.
+fn is_answered<R: Threads + Wait + Sync>(
+    rt: &R,
+    alloc: Global,
+    words: &str,
+    files: [&[u8]; 3],
+    code: u8,
+    lines: &[u8],
+) -> bool {
+    let [points, index, queries] = files;
+    let files = [("pts", points), ("ann", index), ("ask", queries)];
+    tells(rt, alloc, words, &files, code, lines, &files)
+}
+
 #[test]
 fn worked_queries_give_their_lines(rt: HostRuntime) {
-    for (words, index, queries, lines) in WORKED {
-        let files = [("pts", FOUR), ("ann", index), ("ask", queries)];
+    for (words, index, queries, lines) in &WORKED {
+        let files = [FOUR, *index, *queries];
         assert!(rt;
-            tells(&rt, rt.alloc(), words, &files, 0, lines, &files),
+            is_answered(&rt, rt.alloc(), words, files, 0, lines),
             "{words}"
         );
     }
 }
 
 /// Points and queries that don't fit [`FOUR_BY_FOUR`] or one another, and the line that says so.
-const UNFIT: [(&[u8], &[u8], &[u8]); 3] = [
+static UNFIT: [(&[u8], &[u8], &[u8]); 3] = [
     (
         b"\x03\0\0\0\x01\0\0\0\x00\x0a\x14",
         b"\x01\0\0\0\x02\0\0\0\x0c\x0c",
@@ -82,19 +98,9 @@ const UNFIT: [(&[u8], &[u8], &[u8]); 3] = [
 
 #[test]
 fn files_that_do_not_fit_are_refused_in_their_order(rt: HostRuntime) {
-    for (points, queries, line) in UNFIT {
-        let files = [("pts", points), ("ann", FOUR_BY_FOUR), ("ask", queries)];
-        assert!(rt;
-            tells(
-                &rt,
-                rt.alloc(),
-                "query pts ann ask",
-                &files,
-                6,
-                line,
-                &files
-            )
-        );
+    for (points, queries, line) in &UNFIT {
+        let files = [*points, FOUR_BY_FOUR, *queries];
+        assert!(rt; is_answered(&rt, rt.alloc(), WORDS, files, 6, line));
     }
 }
 
@@ -107,9 +113,6 @@ fn five_thousand(alloc: Global) -> Result<Vec<u8>, NoMemory> {
     }
     Ok(queries)
 }
-
-/// The words over that file.
-const WORDS: &str = "query pts ann ask";
 
 /// How many bytes are written where the write with this number fails, of which there are three. They are whole lines, with
 /// which the whole output begins; else there is no number.

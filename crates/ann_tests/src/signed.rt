@@ -6,17 +6,17 @@ use std::thread::Threads;
 use top_calls::{FOUR_BY_FOUR, FOUR_BY_ONE, FOUR_LINE, NONE, Outcome, call};
 
 /// The points -20, -10, 0 and 10 as signed bytes. Without a sign they are 236, 246, 0 and 10.
-const SIGNED: &[u8] = b"\x04\0\0\0\x01\0\0\0\xec\xf6\0\x0a";
+pub(crate) const SIGNED: &[u8] = b"\x04\0\0\0\x01\0\0\0\xec\xf6\0\x0a";
 
 /// Two queries: -8 and 10, or 248 and 10.
 const ASKED: &[u8] = b"\x02\0\0\0\x01\0\0\0\xf8\x0a";
 
 /// The index of the bytes of [`SIGNED`] without a sign: rows [1, 3], [0], [0] and [0].
-const UNSIGNED: &[u8] =
+pub(crate) const UNSIGNED: &[u8] =
     b"PANN\x01\0\0\0\x01\0\0\0\x04\0\0\0\x01\0\0\0\x02\0\0\0\0\0\0\0\x01\0\0\0\x02\0\0\0\x01\0\0\0\x03\0\0\0\x01\0\0\0\0\0\0\0\x01\0\0\0\0\0\0\0\x01\0\0\0\0\0\0\0";
 
 /// Words over `pts`, which holds [`SIGNED`]: what `ann` holds before and after, and the lines.
-const CASES: [(&str, &[u8], &[u8], &[u8]); 6] = [
+static CASES: [(&str, &[u8], &[u8], &[u8]); 6] = [
     (
         "build pts ann --order file --start first --degree 2 --beam 4 --alpha 1/1 --cap 4 --type i8",
         b"old",
@@ -79,8 +79,8 @@ fn is_as_told<R: Threads + Wait + Sync>(
 
 #[test]
 fn the_type_says_how_data_and_queries_are_read(rt: HostRuntime) {
-    for case in CASES {
-        assert!(rt; is_as_told(&rt, rt.alloc(), case), "{}", case.0);
+    for case in &CASES {
+        assert!(rt; is_as_told(&rt, rt.alloc(), *case), "{}", case.0);
     }
 }
 

@@ -1,9 +1,9 @@
 //! Signed bytes, stamped indexes and two passes, from bytes to bytes.
-use crate::told::tells;
+use crate::signed::{SIGNED, UNSIGNED};
 use std::alloc::Global;
 use std::sync::Wait;
 use std::thread::Threads;
-use top_calls::{FOUR, FOUR_BY_FOUR, FOUR_BY_ONE, FOUR_STAMPED, NONE, call};
+use top_calls::{ASKED, FOUR, FOUR_BY_FOUR, FOUR_BY_ONE, FOUR_STAMPED, NONE, call, tells};
 
 /// What is to stand after some words: the code, the file `ann`, and the lines of both outputs together.
 type Case = (
@@ -15,20 +15,13 @@ type Case = (
     &'static [u8],
 );
 
-/// The points -20, -10, 0 and 10 as signed bytes.
-const SIGNED: &[u8] = b"\x04\0\0\0\x01\0\0\0\xec\xf6\0\x0a";
-
 /// [`FOUR`] with another last point.
 const OTHERS: &[u8] = b"\x04\0\0\0\x01\0\0\0\0\x0a\x14\x1f";
 
 const OLD: &[u8] = b"old";
 
-/// The index of the bytes of [`SIGNED`] without a sign: rows [1, 3], [0], [0] and [0].
-const UNSIGNED: &[u8] =
-    b"PANN\x01\0\0\0\x01\0\0\0\x04\0\0\0\x01\0\0\0\x02\0\0\0\0\0\0\0\x01\0\0\0\x02\0\0\0\x01\0\0\0\x03\0\0\0\x01\0\0\0\0\0\0\0\x01\0\0\0\0\0\0\0\x01\0\0\0\0\0\0\0";
-
 /// Words over `pts`, `ann` and `ask`: these bytes of `pts` and `ann`, the code, `ann` after it, and what was printed.
-const CASES: [Case; 9] = [
+static CASES: [Case; 9] = [
     (
         "build pts ann --order file --start first --degree 2 --beam 4 --alpha 1/1 --cap 4 --type i8",
         SIGNED,
@@ -106,8 +99,7 @@ const CASES: [Case; 9] = [
 /// Whether a call ends as a case says.
 fn is_as_told<R: Threads + Wait + Sync>(rt: &R, alloc: Global, case: &Case) -> bool {
     let (words, points, index, code, after, told) = *case;
-    let asked = b"\x02\0\0\0\x01\0\0\0\x0c\x1e".as_slice();
-    let files = [("pts", points), ("ann", index), ("ask", asked)];
+    let files = [("pts", points), ("ann", index), ("ask", ASKED)];
     let left = [("pts", points), ("ann", after)];
     tells(rt, alloc, words, &files, code, told, &left)
 }
@@ -123,8 +115,7 @@ fn elements_stamps_and_passes_give_their_files_and_lines(rt: HostRuntime) {
 fn is_last_of_six<R: Threads + Wait + Sync>(rt: &R, alloc: Global) -> bool {
     let words =
         "live pts ann ask --order file --start first --degree 2 --beam 4 --alpha 1/1 --cap 4 --callers 2 --search 4 --k 1 --passes 2";
-    let asked = b"\x02\0\0\0\x01\0\0\0\x0c\x1e".as_slice();
-    let files = [("pts", FOUR), ("ask", asked)];
+    let files = [("pts", FOUR), ("ask", ASKED)];
     let Ok(ended) = call(rt, alloc, words, &files, NONE) else {
         return false;
     };
