@@ -1,28 +1,19 @@
 -- Edges in order.
-use Rattle.std.proofs.Common.{◌≡◌, ℕ, zero, suc, ◌+◌, ◌-◌, ◌<◌, ◌≤◌, Bool, true, false, List, [], ◌∷◌, ◌++◌, take, drop, length, get_or, refl, sym, ap, ◌∙◌, subst, arith}
+use Rattle.std.proofs.Common.{◌≡◌, ℕ, ◌+◌, ◌-◌, ◌<◌, ◌≤◌, Bool, true, false, List, [], ◌++◌, take, drop, length, get_or, sym, ap, ◌∙◌, subst, arith}
 use Rattle.std.specs.Prelude.{◌==◌, ◌&&◌, nat_eq}
 use Rattle.std.specs.List.{filter, All}
 use Rattle.std.specs.List.Sorted.{IsNonDecreasingBy}
-use Rattle.std.specs.declared.cmp.Ordering.{Ordering}
-use Rattle.std.specs.declared.cmp.Ordering.TheVariants.{Less, Equal, Greater}
-use Rattle.std.specs.Ordering.{nat_cmp, ordering_then, eq_by_cmp, is_eq}
-use Rattle.std.proofs.lemmas.Cmp.{ranked}
+use Rattle.std.specs.Ordering.{nat_cmp, eq_by_cmp, is_eq}
 use Rattle.std.proofs.lemmas.Bool.{eq-eqb, ne_eqb}
 use Rattle.std.proofs.lemmas.List.{get_or-take, get_or-drop, take-append-drop, length-drop, append-nil, length-take-le, get_or_read}
-use Rattle.std.proofs.lemmas.List.Elements.{filter-append, All-from_get_or, All-weaker, Contains-get_or}
+use Rattle.std.proofs.lemmas.List.Elements.{filter-append, All-from_get_or, All-weaker}
 use Rattle.ann_defs.specs.declared.near.Near.{Near}
 use Rattle.ann_defs.specs.Nearness.{near_cmp}
-use Rattle.ann_defs.specs.Ordered.{Rises, ordered}
-use Rattle.ann_defs.proofs.Order.{Rises-fold_put, below_has, has_from_Contains}
-use Rattle.batch_insert.proofs.Grouping.{filter_none, filter_each, nat_ties}
+use Rattle.ann_defs.specs.Ordered.{ordered}
+use Rattle.batch_insert.proofs.Grouping.{filter_none, filter_each, nat_ties, then_eq, first_least, ordered_by}
 use Rattle.neighbour_lists.specs.declared.edge.Edge.{Edge}
 use Rattle.neighbour_lists.specs.Edges.{edge_cmp, IsStart, AreStarts}
 use Rattle.neighbour_lists.proofs.Reversing.{edge_order}
-
-then_eq : (r s : Ordering) → is_eq (ordering_then r s) ≡ (is_eq r && is_eq s)
-then_eq Less s = refl
-then_eq Equal s = refl
-then_eq Greater s = refl
 
 near_ties : (a b : Near) → (nat_eq a.dist b.dist && nat_eq a.id b.id) ≡ is_eq (near_cmp a b)
 near_ties a b = (λ i. nat_ties a.dist b.dist i && nat_ties a.id b.id i) ∙ sym (then_eq (nat_cmp a.dist b.dist) (nat_cmp a.id b.id))
@@ -31,24 +22,8 @@ pub edge_ties : (x y : Edge) → (nat_eq x.target y.target && (nat_eq x.source.d
 edge_ties x y = (λ i. nat_ties x.target y.target i && near_ties x.source y.source i) ∙ sym (then_eq (nat_cmp x.target y.target) (near_cmp x.source y.source))
 
 -- in order, the targets never fall
-less_targets : (a b : Edge) → edge_cmp a b ≡ Less → a.target ≤ b.target
-less_targets a b h =
-    elim (nat_cmp a.target b.target) as (λ r. r ≡ nat_cmp a.target b.target → ordering_then r (near_cmp a.source b.source) ≡ Less → a.target ≤ b.target) [
-      | Less ↦ λ e _. let less : a.target < b.target = ranked a.target b.target Less e in omega (arith, less)
-      | Equal ↦ λ e _. let same : a.target ≡ b.target = ranked a.target b.target Equal e in omega (arith, same)
-      | Greater ↦ λ _ k. cc
-    ] refl h
-
-rising_targets : (xs : List Edge) → Rises edge_cmp xs → IsNonDecreasingBy (λ (e : Edge). e.target) xs
-rising_targets [] up i j d h within = absurd (omega arith)
-rising_targets (x ∷ xs) up zero zero d h within = omega arith
-rising_targets (x ∷ xs) up zero (suc j) d h within =
-    less_targets x (get_or xs j d) (below_has edge_cmp edge_order x (get_or xs j d) xs up.0 (has_from_Contains xs (get_or xs j d) (Contains-get_or xs j d (omega arith))))
-rising_targets (x ∷ xs) up (suc i) zero d h within = absurd (omega arith)
-rising_targets (x ∷ xs) up (suc i) (suc j) d h within = rising_targets xs up.1 i j d (omega arith) (omega arith)
-
 pub ordered_targets : (xs : List Edge) → IsNonDecreasingBy (λ (e : Edge). e.target) (ordered edge_cmp xs)
-ordered_targets xs = rising_targets (ordered edge_cmp xs) (Rises-fold_put edge_cmp edge_order [] xs tt)
+ordered_targets = ordered_by edge_cmp edge_order (λ (e : Edge). e.target) (λ a b. first_least a.target b.target (near_cmp a.source b.source))
 
 -- the part between two starts
 module _ (edges : List Edge) (t from end : ℕ) (first : IsStart edges t from) (last : IsStart edges (t + 1) end) (d : Edge) where

@@ -2,11 +2,10 @@
 use Rattle.std.proofs.Common.{◌≡◌, ℕ, ◌<◌, List, [], ◌∷◌, ◌++◌, map, length, refl, sym, ap, ◌∙◌, subst, inl, inr, append_assoc}
 use Rattle.std.specs.Prelude.{◌⊎◌}
 use Rattle.std.specs.List.{flat_map, range_with_len}
-use Rattle.std.proofs.lemmas.Grind.{flat_map-append}
 use Rattle.ann_defs.specs.Graph.{row_in, AreGoodRows}
 use Rattle.ann_defs.specs.Ordered.{Has}
 use Rattle.ann_defs.proofs.Members.{has-append, append-has, has-flat, flat-has}
-use Rattle.neighbour_lists.specs.Fresh.{parts, row_without, ArePast, offered}
+use Rattle.neighbour_lists.specs.Fresh.{parts, AreWithout, ArePast, offered}
 use Rattle.neighbour_lists.specs.ListRound.{nearest_of, next_row}
 use Rattle.neighbour_lists.specs.Reversed.{others_of, joined}
 use Rattle.neighbour_lists.proofs.KeptRows.{kept_all, kept_or}
@@ -31,10 +30,8 @@ other_end row past xs ys to w h =
 module _ (points : List (List ℕ)) (list : ℕ) (rows others seen_rows seen_others fresh fresh_others stale stale_others : List (List ℕ))
     (good : AreGoodRows (length points) list rows)
     (reversed : others ≡ map (others_of points list rows) (range_with_len 0 (length points)))
-    (new : fresh ≡ map (row_without seen_rows seen_others rows) (range_with_len 0 (length points)))
-    (new_others : fresh_others ≡ map (row_without seen_rows seen_others others) (range_with_len 0 (length points)))
-    (old : stale ≡ map (row_without fresh fresh_others rows) (range_with_len 0 (length points)))
-    (old_others : stale_others ≡ map (row_without fresh fresh_others others) (range_with_len 0 (length points)))
+    (new : AreWithout (length points) seen_rows seen_others rows others fresh fresh_others)
+    (old : AreWithout (length points) fresh fresh_others rows others stale stale_others)
     (past : ArePast points list rows seen_rows seen_others) where
   abbrev all : ℕ → List ℕ
   all = parts rows others
@@ -52,16 +49,16 @@ module _ (points : List (List ℕ)) (list : ℕ) (rows others seen_rows seen_oth
   all_inside u w lt h = joined_inside points list rows good u w lt (subst (λ (xs : List ℕ). Has xs w) (parts_joined points list rows others reversed u lt) h)
 
   some_all : (u w : ℕ) → u < length points → Has (some u) w → Has (all u) w
-  some_all = kept_all (length points) rows others seen_rows seen_others fresh fresh_others new new_others
+  some_all = kept_all (length points) rows others seen_rows seen_others fresh fresh_others new
 
   some_or : (u w : ℕ) → u < length points → Has (all u) w → Has (some u) w ⊎ Has (seen u) w
-  some_or = kept_or (length points) rows others seen_rows seen_others fresh fresh_others new new_others
+  some_or = kept_or (length points) rows others seen_rows seen_others fresh fresh_others new
 
   rest_all : (u w : ℕ) → u < length points → Has (rest u) w → Has (all u) w
-  rest_all = kept_all (length points) rows others fresh fresh_others stale stale_others old old_others
+  rest_all = kept_all (length points) rows others fresh fresh_others stale stale_others old
 
   rest_or : (u w : ℕ) → u < length points → Has (all u) w → Has (rest u) w ⊎ Has (some u) w
-  rest_or = kept_or (length points) rows others fresh fresh_others stale stale_others old old_others
+  rest_or = kept_or (length points) rows others fresh fresh_others stale stale_others old
 
   module _ (v : ℕ) (lt : v < length points) where
     abbrev row : List ℕ
@@ -102,18 +99,6 @@ module _ (points : List (List ℕ)) (list : ℕ) (rows others seen_rows seen_oth
     olds_past : (w : ℕ) → Has olds w → (ids : List ℕ) → nearest_of points list v (row ++ w ∷ ids) ≡ nearest_of points list v (row ++ ids)
     olds_past w h = let from = has-flat seen (seen v) w h in past v from.0 w lt from.1 from.2
 
-    in_order : offered rows others fresh fresh_others stale stale_others v ≡ row ++ news
-    in_order =
-        let a = flat_map some (row_in stale v) in
-        let b = flat_map some (row_in stale_others v) in
-        let c = flat_map all (row_in fresh v) in
-        let d = flat_map all (row_in fresh_others v) in
-        append_assoc ((row ++ a) ++ b) c d
-        ∙ ap (λ (xs : List ℕ). xs ++ (c ++ d)) (append_assoc row a b)
-        ∙ append_assoc row (a ++ b) (c ++ d)
-        ∙ ap (λ (xs : List ℕ). row ++ (xs ++ (c ++ d))) (sym (flat_map-append some (row_in stale v) (row_in stale_others v)))
-        ∙ ap (λ (xs : List ℕ). row ++ (flat_map some (rest v) ++ xs)) (sym (flat_map-append all (row_in fresh v) (row_in fresh_others v)))
-
     -- the list after the round, of what is offered
     pub offered_next : nearest_of points list v (offered rows others fresh fresh_others stale stale_others v) ≡ next_row points list rows v
     offered_next =
@@ -122,7 +107,7 @@ module _ (points : List (List ℕ)) (list : ℕ) (rows others seen_rows seen_oth
         let tail : whole ≡ flat_map (joined points list rows) (joined points list rows v) =
         flat_on all (joined points list rows) (all v) (λ u h. parts_joined points list rows others reversed u (all_inside v u lt h))
         ∙ ap (flat_map (joined points list rows)) mine in
-        ap (nearest_of points list v) in_order
+        ap (nearest_of points list v) (append_assoc row (flat_map some (rest v)) (flat_map all (some v)))
         ∙ sym (drop_past points list v row olds news olds_past)
         ∙ nearest_of_alike points list v (row ++ (olds ++ news)) (row ++ (olds ++ whole)) (alike_both (row ++ (olds ++ news)) (row ++ (olds ++ whole)) (other_end row olds news whole news_all) (other_end row olds whole news all_news))
         ∙ drop_past points list v row olds whole olds_past

@@ -6,7 +6,7 @@ use Rattle.ann_defs.specs.Graph.{has, row_in}
 use Rattle.ann_defs.specs.Ordered.{Has}
 use Rattle.ann_defs.proofs.Members.{all_from_has, has-append, append-has, has-filter, filter_has, has_true}
 use Rattle.ann_defs.proofs.Order.{All_has}
-use Rattle.neighbour_lists.specs.Fresh.{parts, row_without, ArePoints}
+use Rattle.neighbour_lists.specs.Fresh.{parts, row_without, ArePoints, AreWithout, AreHoods}
 use Rattle.neighbour_lists.proofs.AllRows.{mapped_count, mapped_row}
 
 -- an id of a row is new, or it was in the neighbourhood
@@ -22,14 +22,14 @@ new_or_seen rows seen_rows seen_others u w h =
 new_of : (rows seen_rows seen_others : List (List ℕ)) (u w : ℕ) → Has (row_without seen_rows seen_others rows u) w → Has (row_in rows u) w
 new_of rows seen_rows seen_others u w h = (filter_has (λ x. not (has (parts seen_rows seen_others u) x)) (row_in rows u) w h).0
 
--- as many rows as there were
-pub kept_count : (seen_rows seen_others rows kept : List (List ℕ)) → kept ≡ map (row_without seen_rows seen_others rows) (range_with_len 0 (length rows)) → length kept ≡ length rows
-kept_count seen_rows seen_others rows kept is = ap (λ (rs : List (List ℕ)). length rs) is ∙ mapped_count (row_without seen_rows seen_others rows) (length rows)
+-- as many rows as there are points
+kept_count : (n : ℕ) (seen_rows seen_others rows kept : List (List ℕ)) → kept ≡ map (row_without seen_rows seen_others rows) (range_with_len 0 n) → length kept ≡ n
+kept_count n seen_rows seen_others rows kept is = ap (λ (rs : List (List ℕ)). length rs) is ∙ mapped_count (row_without seen_rows seen_others rows) n
 
 -- what is kept of rows of points is rows of points
-pub kept_inside : (n : ℕ) (rows seen_rows seen_others kept : List (List ℕ)) → ArePoints n rows → kept ≡ map (row_without seen_rows seen_others rows) (range_with_len 0 n) → ArePoints n kept
+kept_inside : (n : ℕ) (rows seen_rows seen_others kept : List (List ℕ)) → ArePoints n rows → kept ≡ map (row_without seen_rows seen_others rows) (range_with_len 0 n) → ArePoints n kept
 kept_inside n rows seen_rows seen_others kept h is = record {
-  count = ap (λ (rs : List (List ℕ)). length rs) is ∙ mapped_count (row_without seen_rows seen_others rows) n;
+  count = kept_count n seen_rows seen_others rows kept is;
   inside = λ u lt.
       subst (All (λ w. w < n)) (sym (ap (λ (rs : List (List ℕ)). row_in rs u) is ∙ mapped_row (row_without seen_rows seen_others rows) n u lt))
       (all_from_has (λ w. w < n) (row_without seen_rows seen_others rows u) (λ w m. All_has (λ x. x < n) (row_in rows u) w (h.inside u lt) (new_of rows seen_rows seen_others u w m)));
@@ -37,8 +37,22 @@ kept_inside n rows seen_rows seen_others kept h is = record {
 
 -- rows in two parts, and what is kept of both
 module _ (n : ℕ) (rows others seen_rows seen_others kept kept_others : List (List ℕ))
-    (is : kept ≡ map (row_without seen_rows seen_others rows) (range_with_len 0 n))
-    (others_are : kept_others ≡ map (row_without seen_rows seen_others others) (range_with_len 0 n))
+    (are : AreWithout n seen_rows seen_others rows others kept kept_others) where
+  pub rows_kept : length kept ≡ n
+  rows_kept = kept_count n seen_rows seen_others rows kept are.rows
+
+  pub others_kept : length kept_others ≡ n
+  others_kept = kept_count n seen_rows seen_others others kept_others are.others
+
+  pub hoods_kept : AreHoods n rows others → AreHoods n kept kept_others
+  hoods_kept h = record {
+    rows = kept_inside n rows seen_rows seen_others kept h.rows are.rows;
+    others = kept_inside n others seen_rows seen_others kept_others h.others are.others;
+  }
+
+-- an id of a point, and what is kept of both parts
+module _ (n : ℕ) (rows others seen_rows seen_others kept kept_others : List (List ℕ))
+    (are : AreWithout n seen_rows seen_others rows others kept kept_others)
     (u w : ℕ) (lt : u < n) where
   abbrev first : List ℕ
   first = row_without seen_rows seen_others rows u
@@ -48,8 +62,8 @@ module _ (n : ℕ) (rows others seen_rows seen_others kept kept_others : List (L
 
   kept_are : parts kept kept_others u ≡ first ++ second
   kept_are = λ i.
-      (ap (λ (rs : List (List ℕ)). row_in rs u) is ∙ mapped_row (row_without seen_rows seen_others rows) n u lt) i
-      ++ (ap (λ (rs : List (List ℕ)). row_in rs u) others_are ∙ mapped_row (row_without seen_rows seen_others others) n u lt) i
+      (ap (λ (rs : List (List ℕ)). row_in rs u) are.rows ∙ mapped_row (row_without seen_rows seen_others rows) n u lt) i
+      ++ (ap (λ (rs : List (List ℕ)). row_in rs u) are.others ∙ mapped_row (row_without seen_rows seen_others others) n u lt) i
 
   -- what is kept stood there
   pub kept_all : Has (parts kept kept_others u) w → Has (parts rows others u) w

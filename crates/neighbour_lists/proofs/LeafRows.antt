@@ -17,15 +17,6 @@ use Rattle.neighbour_lists.specs.WrittenRows.{with_rows}
 use Rattle.neighbour_lists.proofs.NearestLists.{nearest_lists}
 use Rattle.neighbour_lists.proofs.NewRows.{length-with_rows, row_with}
 
--- the new rows of all ids
-pub all_new : (row : ℕ → List ℕ) (n : ℕ) (rows : List (List ℕ)) → length rows ≡ n → with_rows row (range_with_len 0 n) rows ≡ map row (range_with_len 0 n)
-all_new row n rows count =
-    fill_by_all row (with_rows row (range_with_len 0 n) rows) n []
-    (length-with_rows row rows (range_with_len 0 n) ∙ count)
-    (λ k lt.
-    row_with row rows (range_with_len 0 n) k (omega arith)
-    ∙ ap (λ b. cond b (row k) (row_in rows k)) (true_has (range_with_len 0 n) k (in_range_has 0 n k (omega arith) (omega arith))))
-
 -- a leaf has points
 leaf_inside : (n : ℕ) (leaves : List (List ℕ)) (v : ℕ) → All (λ ids. All (λ u. u < n) ids) leaves → All (λ u. u < n) (leaf_with leaves v)
 leaf_inside n leaves v inside =

@@ -3,12 +3,12 @@ use Rattle.std.proofs.Common.{◌≡◌, ℕ, ◌<◌, List, map, length, sym, a
 use Rattle.std.specs.List.{All, range_with_len}
 use Rattle.ann_defs.specs.Graph.{row_in, AreGoodRows}
 use Rattle.neighbour_lists.specs.declared.next_row.NextRow.{NextRow}
-use Rattle.neighbour_lists.specs.Fresh.{ArePoints}
+use Rattle.neighbour_lists.specs.Fresh.{ArePoints, AreHoods}
 use Rattle.neighbour_lists.specs.Held.{Held, BelongTo}
 use Rattle.neighbour_lists.specs.Reversed.{others_of}
 use Rattle.neighbour_lists.proofs.AllRows.{mapped_count, mapped_row}
 use Rattle.neighbour_lists.proofs.Joining.{others_inside}
-use Rattle.neighbour_lists.proofs.KeptRows.{kept_inside}
+use Rattle.neighbour_lists.proofs.KeptRows.{hoods_kept}
 
 -- there are as many others as points
 pub others_count : (points : List (List ℕ)) (list : ℕ) (rows others : List (List ℕ)) → others ≡ map (others_of points list rows) (range_with_len 0 (length points)) → length others ≡ length points
@@ -25,25 +25,19 @@ others_rows points list rows others good is = record {
   inside = λ u lt. subst (All (λ w. w < length points)) (sym (ap (λ (rs : List (List ℕ)). row_in rs u) is ∙ mapped_row (others_of points list rows) (length points) u lt)) (others_inside points list rows good u);
 }
 
--- what the offers of a round are read from is rows of points
+-- what the offers of a round are read from is neighbourhoods of points
 module _ (r : NextRow) where
-  pub rows_points : ArePoints (length r.points.now.vectors) r.rows.now.rows
-  rows_points = lists_inside (length r.points.now.vectors) r.rows.now.width r.rows.now.rows r.good
+  pub all_hoods : AreHoods (length r.points.now.vectors) r.rows.now.rows r.others.now.rows
+  all_hoods = record {
+    rows = lists_inside (length r.points.now.vectors) r.rows.now.width r.rows.now.rows r.good;
+    others = others_rows r.points.now.vectors r.rows.now.width r.rows.now.rows r.others.now.rows r.good r.reversed;
+  }
 
-  pub others_points : ArePoints (length r.points.now.vectors) r.others.now.rows
-  others_points = others_rows r.points.now.vectors r.rows.now.width r.rows.now.rows r.others.now.rows r.good r.reversed
+  pub fresh_hoods : AreHoods (length r.points.now.vectors) r.fresh.now.rows.rows r.fresh.now.others.rows
+  fresh_hoods = hoods_kept (length r.points.now.vectors) r.rows.now.rows r.others.now.rows r.seen.now.rows.rows r.seen.now.others.rows r.fresh.now.rows.rows r.fresh.now.others.rows r.new all_hoods
 
-  pub fresh_points : ArePoints (length r.points.now.vectors) r.fresh.now.rows
-  fresh_points = kept_inside (length r.points.now.vectors) r.rows.now.rows r.seen.now.rows.rows r.seen.now.others.rows r.fresh.now.rows rows_points r.new
-
-  pub fresh_others_points : ArePoints (length r.points.now.vectors) r.fresh_others.now.rows
-  fresh_others_points = kept_inside (length r.points.now.vectors) r.others.now.rows r.seen.now.rows.rows r.seen.now.others.rows r.fresh_others.now.rows others_points r.new_others
-
-  pub stale_points : ArePoints (length r.points.now.vectors) r.stale.now.rows
-  stale_points = kept_inside (length r.points.now.vectors) r.rows.now.rows r.fresh.now.rows r.fresh_others.now.rows r.stale.now.rows rows_points r.old
-
-  pub stale_others_points : ArePoints (length r.points.now.vectors) r.stale_others.now.rows
-  stale_others_points = kept_inside (length r.points.now.vectors) r.others.now.rows r.fresh.now.rows r.fresh_others.now.rows r.stale_others.now.rows others_points r.old_others
+  pub stale_hoods : AreHoods (length r.points.now.vectors) r.stale.now.rows.rows r.stale.now.others.rows
+  stale_hoods = hoods_kept (length r.points.now.vectors) r.rows.now.rows r.others.now.rows r.fresh.now.rows.rows r.fresh.now.others.rows r.stale.now.rows.rows r.stale.now.others.rows r.old all_hoods
 
 -- there are as many lists, and as many rows that the last round met, as points
 module _ (points : List (List ℕ)) (h l : Held) (same : h ≡ l) (belong : BelongTo points l) where

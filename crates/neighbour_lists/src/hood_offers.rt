@@ -1,15 +1,36 @@
 //! Neighbourhoods that are offered.
 ghost use Rattle.std.specs.Prelude.{◌≡◌, ◌<◌, length};
 ghost use Rattle.std.specs.List.{All, flat_map};
-ghost use Rattle.neighbour_lists.specs.Fresh.{parts, ArePoints};
+ghost use Rattle.neighbour_lists.specs.Fresh.{parts, AreHoods};
 ghost use Rattle.neighbour_lists.specs.Offering.{IsOffered, HasOffered};
 
+use crate::hoods::Hoods;
 use crate::nearest::Nearest;
 use bin_files::Points;
 use graph_rows::FlatGraph;
 
-/// Offers for the list of `v` both parts of the neighbourhood of each of the ids. The rows are read ahead. Takes no memory.
-pub(crate) fn offer_each(
+/// Offers for the list of `v` what the points of a neighbourhood of `v` have in other neighbourhoods, in both parts. Takes no memory.
+pub(crate) fn offer_around(
+    points: &Points,
+    scratch: &mut Nearest,
+    v: u32,
+    around: &Hoods,
+    rows: &FlatGraph,
+    others: &FlatGraph,
+)
+    requires v { v < length points.now.vectors }
+    requires around { AreHoods (length points.now.vectors) around.now.rows.rows around.now.others.rows }
+    requires hoods { AreHoods (length points.now.vectors) rows.now.rows others.now.rows }
+    requires count { length scratch.old.marks ≡ length points.now.vectors }
+    requires offered { IsOffered points.now.vectors v scratch.old }
+    ensures { HasOffered points.now.vectors v (flat_map (parts rows.now.rows others.now.rows) (parts around.now.rows.rows around.now.others.rows v)) scratch.old scratch.new }
+{
+    offer_each(points, scratch, v, around.rows.at(v), rows, others);
+    offer_each(points, scratch, v, around.others.at(v), rows, others);
+}
+
+// Offers both parts of the neighbourhood of each of the ids. The rows are read ahead.
+fn offer_each(
     points: &Points,
     scratch: &mut Nearest,
     v: u32,
@@ -19,8 +40,7 @@ pub(crate) fn offer_each(
 )
     requires v { v < length points.now.vectors }
     requires ids { All (λ u. u < length points.now.vectors) ids.now }
-    requires rows { ArePoints (length points.now.vectors) rows.now.rows }
-    requires others { ArePoints (length points.now.vectors) others.now.rows }
+    requires hoods { AreHoods (length points.now.vectors) rows.now.rows others.now.rows }
     requires count { length scratch.old.marks ≡ length points.now.vectors }
     requires offered { IsOffered points.now.vectors v scratch.old }
     ensures { HasOffered points.now.vectors v (flat_map (parts rows.now.rows others.now.rows) ids.now) scratch.old scratch.new }
@@ -58,8 +78,7 @@ fn offer_parts(
 )
     requires v { v < length points.now.vectors }
     requires u { u < length points.now.vectors }
-    requires rows { ArePoints (length points.now.vectors) rows.now.rows }
-    requires others { ArePoints (length points.now.vectors) others.now.rows }
+    requires hoods { AreHoods (length points.now.vectors) rows.now.rows others.now.rows }
     requires count { length scratch.old.marks ≡ length points.now.vectors }
     requires offered { IsOffered points.now.vectors v scratch.old }
     ensures { HasOffered points.now.vectors v (parts rows.now.rows others.now.rows u) scratch.old scratch.new }

@@ -95,15 +95,6 @@ fn leaf_rows<R: Threads + Sync, P: Rounds, G: Gate + Sync>(
         rows: &lists.rows,
         tree,
     };
-    put_rows(
-        rt,
-        alloc,
-        pool,
-        &rule,
-        ids.as_slice(),
-        &mut rows,
-        &mut posts,
-        gate,
-    )?;
+    put_rows(rt, alloc, pool, &rule, &ids, &mut rows, &mut posts, gate)?;
     Ok(rows)
 }

@@ -7,7 +7,7 @@ ghost use Rattle.neighbour_lists.specs.ListRound.{next_rows};
 ghost use Rattle.neighbour_lists.specs.Reversed.{others_of};
 ghost use Rattle.neighbour_lists.specs.Rounds.{active_ids};
 
-use crate::fresh::rows_without;
+use crate::fresh::hoods_without;
 use crate::lists::Lists;
 use crate::nearest::posts_for;
 use crate::next_row::NextRow;
@@ -49,31 +49,17 @@ pub(crate) fn next_lists<R: Threads + Sync, P: Rounds, G: Gate + Sync>(
     let ids = list_active(alloc, lists)?;
     let mut posts = posts_for(alloc, points, lists.list, pool.workers())?;
     let others = other_sides(alloc, points, &lists.rows, &lists.edges)?;
-    let seen = &lists.seen;
-    let fresh = rows_without(alloc, &lists.rows, &seen.rows, &seen.others)?;
-    let fresh_others = rows_without(alloc, &others, &seen.rows, &seen.others)?;
-    let stale = rows_without(alloc, &lists.rows, &fresh, &fresh_others)?;
-    let stale_others = rows_without(alloc, &others, &fresh, &fresh_others)?;
+    let fresh = hoods_without(alloc, &lists.rows, &others, &lists.seen)?;
+    let stale = hoods_without(alloc, &lists.rows, &others, &fresh)?;
     let rule = NextRow {
         points,
         rows: &lists.rows,
         others: &others,
-        seen,
+        seen: &lists.seen,
         fresh: &fresh,
-        fresh_others: &fresh_others,
         stale: &stale,
-        stale_others: &stale_others,
     };
-    put_rows(
-        rt,
-        alloc,
-        pool,
-        &rule,
-        ids.as_slice(),
-        &mut rows,
-        &mut posts,
-        gate,
-    )?;
+    put_rows(rt, alloc, pool, &rule, &ids, &mut rows, &mut posts, gate)?;
     Ok(Improved { rows, others })
 }
 

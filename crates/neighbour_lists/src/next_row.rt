@@ -5,11 +5,11 @@ ghost use Rattle.std.proofs.Props.{props};
 ghost use Rattle.ann_defs.specs.declared.limits.TheConstants.{MAX_DEGREE};
 ghost use Rattle.ann_defs.specs.Graph.{AreGoodRows};
 ghost use Rattle.neighbour_lists.specs.ListRound.{next_row};
-ghost use Rattle.neighbour_lists.specs.Fresh.{row_without, ArePast, offered};
+ghost use Rattle.neighbour_lists.specs.Fresh.{ArePast, AreWithout, offered};
 ghost use Rattle.neighbour_lists.specs.Reversed.{others_of};
 ghost use Rattle.neighbour_lists.specs.Offering.{ServesRows, IsOffered, HasOffered, nearest_short};
 
-use crate::hood_offers::offer_each;
+use crate::hood_offers::offer_around;
 use crate::hoods::Hoods;
 use crate::nearest::Nearest;
 use crate::row_tasks::RowRule;
@@ -27,17 +27,13 @@ pub(crate) struct NextRow<'a> {
     pub rows: &'a FlatGraph,
     pub others: &'a FlatGraph,
     pub seen: &'a Hoods,
-    pub fresh: &'a FlatGraph,
-    pub fresh_others: &'a FlatGraph,
-    pub stale: &'a FlatGraph,
-    pub stale_others: &'a FlatGraph,
+    pub fresh: &'a Hoods,
+    pub stale: &'a Hoods,
     ghost good: { AreGoodRows (length points.now.vectors) rows.now.width rows.now.rows } by { Prim.hlevel props },
     ghost narrow: { rows.now.width ≤ MAX_DEGREE },
     ghost reversed: { others.now.rows ≡ map (others_of points.now.vectors rows.now.width rows.now.rows) (range_with_len 0 (length points.now.vectors)) },
-    ghost new: { fresh.now.rows ≡ map (row_without seen.now.rows.rows seen.now.others.rows rows.now.rows) (range_with_len 0 (length points.now.vectors)) },
-    ghost new_others: { fresh_others.now.rows ≡ map (row_without seen.now.rows.rows seen.now.others.rows others.now.rows) (range_with_len 0 (length points.now.vectors)) },
-    ghost old: { stale.now.rows ≡ map (row_without fresh.now.rows fresh_others.now.rows rows.now.rows) (range_with_len 0 (length points.now.vectors)) },
-    ghost old_others: { stale_others.now.rows ≡ map (row_without fresh.now.rows fresh_others.now.rows others.now.rows) (range_with_len 0 (length points.now.vectors)) },
+    ghost new: { AreWithout (length points.now.vectors) seen.now.rows.rows seen.now.others.rows rows.now.rows others.now.rows fresh.now.rows.rows fresh.now.others.rows } by { Prim.hlevel props },
+    ghost old: { AreWithout (length points.now.vectors) fresh.now.rows.rows fresh.now.others.rows rows.now.rows others.now.rows stale.now.rows.rows stale.now.others.rows } by { Prim.hlevel props },
     ghost past: { ArePast points.now.vectors rows.now.width rows.now.rows seen.now.rows.rows seen.now.others.rows } by { Prim.hlevel props },
 }
 
@@ -71,13 +67,11 @@ impl<'a> NextRow<'a> {
         requires v { v < length self.now.points.now.vectors }
         requires count { length scratch.old.marks ≡ length self.now.points.now.vectors }
         requires offered { IsOffered self.now.points.now.vectors v scratch.old }
-        ensures { HasOffered self.now.points.now.vectors v (offered self.now.rows.now.rows self.now.others.now.rows self.now.fresh.now.rows self.now.fresh_others.now.rows self.now.stale.now.rows self.now.stale_others.now.rows v) scratch.old scratch.new }
+        ensures { HasOffered self.now.points.now.vectors v (offered self.now.rows.now.rows self.now.others.now.rows self.now.fresh.now.rows.rows self.now.fresh.now.others.rows self.now.stale.now.rows.rows self.now.stale.now.others.rows v) scratch.old scratch.new }
     {
-        scratch.offer(self.points, v, self.rows.at(v));
-        let (points, new, more) = (self.points, self.fresh, self.fresh_others);
-        offer_each(points, scratch, v, self.stale.at(v), new, more);
-        offer_each(points, scratch, v, self.stale_others.at(v), new, more);
-        offer_each(points, scratch, v, new.at(v), self.rows, self.others);
-        offer_each(points, scratch, v, more.at(v), self.rows, self.others);
+        let (points, fresh) = (self.points, self.fresh);
+        scratch.offer(points, v, self.rows.at(v));
+        offer_around(points, scratch, v, self.stale, &fresh.rows, &fresh.others);
+        offer_around(points, scratch, v, fresh, self.rows, self.others);
     }
 }

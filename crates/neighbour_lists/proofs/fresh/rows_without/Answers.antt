@@ -13,7 +13,7 @@ loop-u-init c =
     let rows = c.args.rows.now.rows in
     let copied = c.in_ok-kept.ensures in
     record {
-      rows = ap (λ (f : Flat). f.rows) copied ∙ with_none (row_without c.args.seen.now.rows c.args.seen_others.now.rows rows) rows;
+      rows = ap (λ (f : Flat). f.rows) copied ∙ with_none (row_without c.args.seen.now.rows.rows c.args.seen.now.others.rows rows) rows;
       width = ap (λ (f : Flat). f.width) copied;
       room = refl;
     }
@@ -21,7 +21,7 @@ loop-u-init c =
 pub set_row-requires-clause-i : goal.set_row-requires-clause-i
 set_row-requires-clause-i c =
     let rows = c.args.rows.now.rows in
-    let new = row_without c.args.seen.now.rows c.args.seen_others.now.rows rows in
+    let new = row_without c.args.seen.now.rows.rows c.args.seen.now.others.rows rows in
     let long = ap (λ (rs : List (List ℕ)). length rs) c.loop-u.invariant.rows ∙ length-with_rows new rows (range_with_len 0 c.loop-u.u) in
     let below = c.loop-u-test.true in
     let count = c.count-u-end.ensures in
@@ -30,7 +30,7 @@ set_row-requires-clause-i c =
 pub loop-u-preserved : goal.loop-u-preserved
 loop-u-preserved c =
     let rows = c.args.rows.now.rows in
-    let new = row_without c.args.seen.now.rows c.args.seen_others.now.rows rows in
+    let new = row_without c.args.seen.now.rows.rows c.args.seen.now.others.rows rows in
     let u = c.loop-u.u in
     let row = c.write_without-len.ensures.ids ∙ (λ i. filter (λ w. not (has (c.at.ensures.row i ++ c.at-in-loop-u.ensures.row i) w)) (c.at-in-loop-u-2.ensures.row i)) in
     let below = c.loop-u-test.true in
@@ -45,7 +45,7 @@ loop-u-preserved c =
 pub returns : goal.returns
 returns c =
     let rows = c.args.rows.now.rows in
-    let new = row_without c.args.seen.now.rows c.args.seen_others.now.rows rows in
+    let new = row_without c.args.seen.now.rows.rows c.args.seen.now.others.rows rows in
     let last = c.loop-u-test.false in
     let end = c.loop-u.auto.u-end in
     let count = c.count-u-end.ensures in

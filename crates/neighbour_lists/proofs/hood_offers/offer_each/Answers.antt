@@ -8,10 +8,10 @@ use Rattle.neighbour_lists.proofs.Offers.{offered_none, offered_on, offered_same
 use Rattle.neighbour_lists.proofs.hood_offers.offer_each.Goals as goal
 
 pub ends_of-requires : goal.ends_of-requires
-ends_of-requires c = subst (λ (k : ℕ). All (λ (u : ℕ). u < k) c.args.ids.now) (sym c.requires.rows.count) c.requires.ids
+ends_of-requires c = subst (λ (k : ℕ). All (λ (u : ℕ). u < k) c.args.ids.now) (sym c.requires.hoods.rows.count) c.requires.ids
 
 pub ends_of-requires-2 : goal.ends_of-requires-2
-ends_of-requires-2 c = subst (λ (k : ℕ). All (λ (u : ℕ). u < k) c.args.ids.now) (sym c.requires.others.count) c.requires.ids
+ends_of-requires-2 c = subst (λ (k : ℕ). All (λ (u : ℕ). u < k) c.args.ids.now) (sym c.requires.hoods.others.count) c.requires.ids
 
 pub loop-u-init : goal.loop-u-init
 loop-u-init c = subst (HasOffered c.args.points.now.vectors c.args.v [] c.args.scratch.now) (sym c.note.ensures) (offered_none c.args.points.now.vectors c.args.v c.args.scratch.now c.requires.offered)

@@ -4,16 +4,16 @@ use Rattle.neighbour_lists.proofs.Offers.{offered_on, offered_same}
 use Rattle.neighbour_lists.proofs.hood_offers.offer_parts.Goals as goal
 
 pub at-requires : goal.at-requires
-at-requires c = subst (λ (k : ℕ). c.args.u < k) (sym c.requires.rows.count) c.requires.u
+at-requires c = subst (λ (k : ℕ). c.args.u < k) (sym c.requires.hoods.rows.count) c.requires.u
 
 pub at-requires-2 : goal.at-requires-2
-at-requires-2 c = subst (λ (k : ℕ). c.args.u < k) (sym c.requires.others.count) c.requires.u
+at-requires-2 c = subst (λ (k : ℕ). c.args.u < k) (sym c.requires.hoods.others.count) c.requires.u
 
 pub offer-requires-clause-ids : goal.offer-requires-clause-ids
-offer-requires-clause-ids c = subst (All (λ (w : ℕ). w < length c.args.points.now.vectors)) (sym c.at.ensures.row) (c.requires.rows.inside c.args.u c.requires.u)
+offer-requires-clause-ids c = subst (All (λ (w : ℕ). w < length c.args.points.now.vectors)) (sym c.at.ensures.row) (c.requires.hoods.rows.inside c.args.u c.requires.u)
 
 pub offer-requires-2-clause-ids : goal.offer-requires-2-clause-ids
-offer-requires-2-clause-ids c = subst (All (λ (w : ℕ). w < length c.args.points.now.vectors)) (sym c.at-2.ensures.row) (c.requires.others.inside c.args.u c.requires.u)
+offer-requires-2-clause-ids c = subst (All (λ (w : ℕ). w < length c.args.points.now.vectors)) (sym c.at-2.ensures.row) (c.requires.hoods.others.inside c.args.u c.requires.u)
 
 pub returns : goal.returns
 returns c =

@@ -1,20 +1,20 @@
-use Rattle.std.proofs.Common.{◌≡◌, ◌<◌, ◌∙◌, ◌++◌, ℕ, List, length, sym, ap, subst, arith}
+use Rattle.std.proofs.Common.{◌≡◌, ◌<◌, ◌∙◌, ◌++◌, ℕ, List, length, sym, ap, subst}
 use Rattle.std.specs.List.{All, range_with_len}
 use Rattle.ann_defs.specs.Graph.{row_in}
-use Rattle.ann_defs.proofs.Members.{all_from_has, range_has}
 use Rattle.graph_rows.specs.Flat.{Flat}
 use Rattle.pivot_trees.specs.Leaves.{leaf_with}
 use Rattle.neighbour_lists.specs.Held.{Held, ArePointLists}
 use Rattle.neighbour_lists.specs.ListRound.{nearest_of}
 use Rattle.neighbour_lists.specs.WrittenRows.{with_rows}
-use Rattle.neighbour_lists.proofs.LeafRows.{all_new, leaf_lists}
+use Rattle.neighbour_lists.proofs.AllRows.{all_inside, all_written}
+use Rattle.neighbour_lists.proofs.LeafRows.{leaf_lists}
 use Rattle.neighbour_lists.proofs.leaves.leaf_rows.Goals as goal
 
 pub put_rows-requires-clause-inside : goal.put_rows-requires-clause-inside
 put_rows-requires-clause-inside g c κs within =
     let n = length c.args.points.now.vectors in
-    let ids : c.as_slice.result.now ≡ range_with_len 0 n = c.as_slice.ensures.value ∙ c.in_ok-ids.ensures ∙ ap (range_with_len 0) c.count-3.ensures.value in
-    subst (All (λ (v : ℕ). v < n)) (sym ids) (all_from_has (λ v. v < n) (range_with_len 0 n) (λ v h. let below = (range_has 0 n v h).1 in omega arith))
+    let ids : c.deref.result.now ≡ range_with_len 0 n = c.deref.ensures.value ∙ c.in_ok-ids.ensures ∙ ap (range_with_len 0) c.count-3.ensures.value in
+    subst (All (λ (v : ℕ). v < n)) (sym ids) (all_inside n)
 
 pub returns-clause-rows : goal.returns-clause-rows
 returns-clause-rows g c =
@@ -24,12 +24,12 @@ returns-clause-rows g c =
     let held = c.lists.inside in
     let leaves = c.args.tree.now.leaves in
     let row = λ (list : ℕ) (rows : List (List ℕ)) (v : ℕ). nearest_of points list v (row_in rows v ++ leaf_with leaves v) in
-    let ids : c.as_slice.result.now ≡ range_with_len 0 n = c.as_slice.ensures.value ∙ c.in_ok-ids.ensures ∙ ap (range_with_len 0) c.count-3.ensures.value in
+    let ids : c.deref.result.now ≡ range_with_len 0 n = c.deref.ensures.value ∙ c.in_ok-ids.ensures ∙ ap (range_with_len 0) c.count-3.ensures.value in
     let copied : c.in_ok-rows.rows.rows ≡ held.rows.rows = ap (λ (f : Flat). f.rows) c.in_ok-rows.ensures in
     c.in_ok-put_rows.ensures.rows
     ∙ (λ i. with_rows (row (c.lists.invariant i) held.rows.rows) (ids i) (copied i))
     ∙ ap (λ (h : Held). with_rows (row h.list h.rows) (range_with_len 0 n) h.rows) c.lists.view_is
-    ∙ all_new (row l.list l.rows) n l.rows c.requires.belong.rows.count
+    ∙ all_written (row l.list l.rows) l.rows n c.requires.belong.rows.count
 
 pub returns-clause-lists : goal.returns-clause-lists
 returns-clause-lists g c =
