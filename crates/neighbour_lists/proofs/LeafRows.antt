@@ -1,21 +1,17 @@
 -- Lists with the leaves of a tree.
-use Rattle.std.proofs.Common.{◌≡◌, ℕ, ◌<◌, cond, List, [], ◌++◌, map, length, sym, ap, ◌∙◌, subst, inl, inr, arith}
-use Rattle.std.specs.List.{All, range_with_len, position_or_len}
+use Rattle.std.proofs.Common.{ℕ, ◌<◌, List, [], ◌++◌, length, sym, subst, inl, inr}
+use Rattle.std.specs.List.{All, position_or_len}
 use Rattle.std.proofs.lemmas.Bool.{cases_lt}
 use Rattle.std.proofs.lemmas.List.{get_or_past}
 use Rattle.std.proofs.lemmas.List.Elements.{All-get_or, All-nil}
-use Rattle.std.proofs.lemmas.List.FromFn.{fill_by_all}
 use Rattle.ann_defs.specs.Graph.{has, row_in}
 use Rattle.ann_defs.specs.Ordered.{Has}
-use Rattle.ann_defs.proofs.Members.{true_has, has-append}
+use Rattle.ann_defs.proofs.Members.{has-append}
 use Rattle.ann_defs.proofs.Order.{All_has}
-use Rattle.batch_insert.proofs.Ascending.{in_range_has}
 use Rattle.pivot_trees.specs.Leaves.{leaf_with}
 use Rattle.neighbour_lists.specs.Held.{Held, ArePointLists, BelongTo}
 use Rattle.neighbour_lists.specs.ListRound.{with_leaves}
-use Rattle.neighbour_lists.specs.WrittenRows.{with_rows}
 use Rattle.neighbour_lists.proofs.NearestLists.{nearest_lists}
-use Rattle.neighbour_lists.proofs.NewRows.{length-with_rows, row_with}
 
 -- a leaf has points
 leaf_inside : (n : ℕ) (leaves : List (List ℕ)) (v : ℕ) → All (λ ids. All (λ u. u < n) ids) leaves → All (λ u. u < n) (leaf_with leaves v)

@@ -27,17 +27,17 @@ others_rows points list rows others good is = record {
 
 -- what the offers of a round are read from is neighbourhoods of points
 module _ (r : NextRow) where
-  pub all_hoods : AreHoods (length r.points.now.vectors) r.rows.now.rows r.others.now.rows
+  pub all_hoods : AreHoods (length r.points.now.vectors) r.rows.now.rows r.news.now.others.rows
   all_hoods = record {
     rows = lists_inside (length r.points.now.vectors) r.rows.now.width r.rows.now.rows r.good;
-    others = others_rows r.points.now.vectors r.rows.now.width r.rows.now.rows r.others.now.rows r.good r.reversed;
+    others = others_rows r.points.now.vectors r.rows.now.width r.rows.now.rows r.news.now.others.rows r.good r.reversed;
   }
 
-  pub fresh_hoods : AreHoods (length r.points.now.vectors) r.fresh.now.rows.rows r.fresh.now.others.rows
-  fresh_hoods = hoods_kept (length r.points.now.vectors) r.rows.now.rows r.others.now.rows r.seen.now.rows.rows r.seen.now.others.rows r.fresh.now.rows.rows r.fresh.now.others.rows r.new all_hoods
+  pub fresh_hoods : AreHoods (length r.points.now.vectors) r.news.now.fresh.rows.rows r.news.now.fresh.others.rows
+  fresh_hoods = hoods_kept (length r.points.now.vectors) r.rows.now.rows r.news.now.others.rows r.seen.now.rows.rows r.seen.now.others.rows r.news.now.fresh.rows.rows r.news.now.fresh.others.rows r.new all_hoods
 
-  pub stale_hoods : AreHoods (length r.points.now.vectors) r.stale.now.rows.rows r.stale.now.others.rows
-  stale_hoods = hoods_kept (length r.points.now.vectors) r.rows.now.rows r.others.now.rows r.fresh.now.rows.rows r.fresh.now.others.rows r.stale.now.rows.rows r.stale.now.others.rows r.old all_hoods
+  pub stale_hoods : AreHoods (length r.points.now.vectors) r.news.now.stale.rows.rows r.news.now.stale.others.rows
+  stale_hoods = hoods_kept (length r.points.now.vectors) r.rows.now.rows r.news.now.others.rows r.news.now.fresh.rows.rows r.news.now.fresh.others.rows r.news.now.stale.rows.rows r.news.now.stale.others.rows r.old all_hoods
 
 -- there are as many lists, and as many rows that the last round met, as points
 module _ (points : List (List ℕ)) (h l : Held) (same : h ≡ l) (belong : BelongTo points l) where

@@ -8,8 +8,7 @@ ghost use Rattle.pivot_trees.specs.Leaves.{leaf_with};
 use crate::flags::raise_all;
 use crate::leaf_row::LeafRow;
 use crate::lists::Lists;
-use crate::nearest::posts_for;
-use crate::row_tasks::put_rows;
+use crate::lists_by::lists_by;
 use ann_shelf::{Gate, NoMemory};
 use bin_files::Points;
 use graph_rows::FlatGraph;
@@ -87,14 +86,11 @@ fn leaf_rows<R: Threads + Sync, P: Rounds, G: Gate + Sync>(
     ensures workers { P.count pool.new ≡ P.count pool.old }
 {
     prove!(tree.count() == points.count());
-    let mut rows = lists.rows.copy(alloc)?;
     let ids = file_order(alloc, points.count())?;
-    let mut posts = posts_for(alloc, points, lists.list, pool.workers())?;
     let rule = LeafRow {
         points,
         rows: &lists.rows,
         tree,
     };
-    put_rows(rt, alloc, pool, &rule, &ids, &mut rows, &mut posts, gate)?;
-    Ok(rows)
+    lists_by(rt, alloc, points, lists, &rule, &ids, pool, gate)
 }

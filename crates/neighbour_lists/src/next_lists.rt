@@ -7,12 +7,10 @@ ghost use Rattle.neighbour_lists.specs.ListRound.{next_rows};
 ghost use Rattle.neighbour_lists.specs.Reversed.{others_of};
 ghost use Rattle.neighbour_lists.specs.Rounds.{active_ids};
 
-use crate::fresh::hoods_without;
 use crate::lists::Lists;
-use crate::nearest::posts_for;
+use crate::lists_by::lists_by;
+use crate::news::news_of;
 use crate::next_row::NextRow;
-use crate::others::other_sides;
-use crate::row_tasks::put_rows;
 use ann_shelf::{Gate, NoMemory};
 use bin_files::Points;
 use graph_rows::FlatGraph;
@@ -45,22 +43,19 @@ pub(crate) fn next_lists<R: Threads + Sync, P: Rounds, G: Gate + Sync>(
     ensures others { IfOk result (λ g. g.others.rows ≡ map (others_of points.now.vectors lists.now.list lists.now.rows) (range_with_len 0 (length points.now.vectors))) }
     ensures workers { P.count pool.new ≡ P.count pool.old }
 {
-    let mut rows = lists.rows.copy(alloc)?;
     let ids = list_active(alloc, lists)?;
-    let mut posts = posts_for(alloc, points, lists.list, pool.workers())?;
-    let others = other_sides(alloc, points, &lists.rows, &lists.edges)?;
-    let fresh = hoods_without(alloc, &lists.rows, &others, &lists.seen)?;
-    let stale = hoods_without(alloc, &lists.rows, &others, &fresh)?;
+    let news = news_of(alloc, points, lists)?;
     let rule = NextRow {
         points,
         rows: &lists.rows,
-        others: &others,
         seen: &lists.seen,
-        fresh: &fresh,
-        stale: &stale,
+        news: &news,
     };
-    put_rows(rt, alloc, pool, &rule, &ids, &mut rows, &mut posts, gate)?;
-    Ok(Improved { rows, others })
+    let rows = lists_by(rt, alloc, points, lists, &rule, &ids, pool, gate)?;
+    Ok(Improved {
+        rows,
+        others: news.others,
+    })
 }
 
 // The active points, ascending.

@@ -12,6 +12,7 @@ ghost use Rattle.neighbour_lists.specs.Offering.{ServesRows, IsOffered, HasOffer
 use crate::hood_offers::offer_around;
 use crate::hoods::Hoods;
 use crate::nearest::Nearest;
+use crate::news::News;
 use crate::row_tasks::RowRule;
 use bin_files::Points;
 use graph_rows::FlatGraph;
@@ -25,15 +26,13 @@ use graph_rows::FlatGraph;
 pub(crate) struct NextRow<'a> {
     pub points: &'a Points,
     pub rows: &'a FlatGraph,
-    pub others: &'a FlatGraph,
     pub seen: &'a Hoods,
-    pub fresh: &'a Hoods,
-    pub stale: &'a Hoods,
+    pub news: &'a News,
     ghost good: { AreGoodRows (length points.now.vectors) rows.now.width rows.now.rows } by { Prim.hlevel props },
     ghost narrow: { rows.now.width ≤ MAX_DEGREE },
-    ghost reversed: { others.now.rows ≡ map (others_of points.now.vectors rows.now.width rows.now.rows) (range_with_len 0 (length points.now.vectors)) },
-    ghost new: { AreWithout (length points.now.vectors) seen.now.rows.rows seen.now.others.rows rows.now.rows others.now.rows fresh.now.rows.rows fresh.now.others.rows } by { Prim.hlevel props },
-    ghost old: { AreWithout (length points.now.vectors) fresh.now.rows.rows fresh.now.others.rows rows.now.rows others.now.rows stale.now.rows.rows stale.now.others.rows } by { Prim.hlevel props },
+    ghost reversed: { news.now.others.rows ≡ map (others_of points.now.vectors rows.now.width rows.now.rows) (range_with_len 0 (length points.now.vectors)) },
+    ghost new: { AreWithout (length points.now.vectors) seen.now.rows.rows seen.now.others.rows rows.now.rows news.now.others.rows news.now.fresh.rows.rows news.now.fresh.others.rows } by { Prim.hlevel props },
+    ghost old: { AreWithout (length points.now.vectors) news.now.fresh.rows.rows news.now.fresh.others.rows rows.now.rows news.now.others.rows news.now.stale.rows.rows news.now.stale.others.rows } by { Prim.hlevel props },
     ghost past: { ArePast points.now.vectors rows.now.width rows.now.rows seen.now.rows.rows seen.now.others.rows } by { Prim.hlevel props },
 }
 
@@ -67,11 +66,12 @@ impl<'a> NextRow<'a> {
         requires v { v < length self.now.points.now.vectors }
         requires count { length scratch.old.marks ≡ length self.now.points.now.vectors }
         requires offered { IsOffered self.now.points.now.vectors v scratch.old }
-        ensures { HasOffered self.now.points.now.vectors v (offered self.now.rows.now.rows self.now.others.now.rows self.now.fresh.now.rows.rows self.now.fresh.now.others.rows self.now.stale.now.rows.rows self.now.stale.now.others.rows v) scratch.old scratch.new }
+        ensures { HasOffered self.now.points.now.vectors v (offered self.now.rows.now.rows self.now.news.now.others.rows self.now.news.now.fresh.rows.rows self.now.news.now.fresh.others.rows self.now.news.now.stale.rows.rows self.now.news.now.stale.others.rows v) scratch.old scratch.new }
     {
-        let (points, fresh) = (self.points, self.fresh);
+        let (points, news) = (self.points, self.news);
+        let fresh = &news.fresh;
         scratch.offer(points, v, self.rows.at(v));
-        offer_around(points, scratch, v, self.stale, &fresh.rows, &fresh.others);
-        offer_around(points, scratch, v, fresh, self.rows, self.others);
+        offer_around(points, scratch, v, &news.stale, &fresh.rows, &fresh.others);
+        offer_around(points, scratch, v, fresh, self.rows, &news.others);
     }
 }
