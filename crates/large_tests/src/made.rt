@@ -42,16 +42,28 @@ fn sum_of(bytes: &[u8]) -> u64 {
     sum
 }
 
-/// A shelf with a file of so many made points of this seed.
-fn made_file(alloc: Global, count: u32, seed: u64) -> Result<MemShelf, NoMemory>
+/// The bytes of a file, or none.
+fn bytes_in<'a>(shelf: &'a MemShelf, name: &str) -> &'a [u8] {
+    shelf.bytes(name).unwrap_or(&[])
+}
+
+/// A shelf with a file of so many made points of this seed, whose bytes have this sum.
+fn made_file(
+    rt: &impl Abort,
+    alloc: Global,
+    count: u32,
+    seed: u64,
+    sum: u64,
+) -> Result<MemShelf, NoMemory>
     requires { (1 ≤ count) × (count ≤ 5000) }
 {
     let points = made_points(alloc, count, 16, seed, 0)?;
     let mut shelf = MemShelf::new(alloc);
-    match write_points(&mut shelf, "pts", &points) {
-        Ok(()) => Ok(shelf),
-        Err(_slip) => Err(NoMemory),
+    if write_points(&mut shelf, "pts", &points).is_err() {
+        return Err(NoMemory);
     }
+    assert_eq!(rt; sum_of(bytes_in(&shelf, "pts")), sum);
+    Ok(shelf)
 }
 
 /// A build of the points with these settings, on this pool.
@@ -73,16 +85,32 @@ pub(crate) fn assert_index<R: Threads + Wait + Sync + Abort>(
     wanted: Wanted,
     pools: &[&str],
 ) -> Result<(), NoMemory> {
-    let data = made_file(alloc, 2000, 1)?;
-    let points = data.bytes("pts").unwrap_or(&[]);
-    assert_eq!(rt; sum_of(points), POINTS);
+    let data = made_file(rt, alloc, 2000, 1, POINTS)?;
     for pool in pools {
-        let ended = built(rt, alloc, points, wanted.settings, pool)?;
+        let ended = built(rt, alloc, bytes_in(&data, "pts"), wanted.settings, pool)?;
         assert_eq!(rt; ended.status.code, 0, "{pool}");
         assert!(rt; ended.out.bytes() == wanted.line, "{pool}");
-        let index = ended.shelf.bytes("ann").unwrap_or(&[]);
+        let index = bytes_in(&ended.shelf, "ann");
         assert_eq!(rt; (index.len(), sum_of(index)), wanted.index, "{pool}");
         assert!(rt; ended.shelf.calls() <= CALLS, "{pool}");
+    }
+    Ok(())
+}
+
+/// Asserts that queries of these files print lines of so many bytes and this sum on each of these pools.
+fn assert_lines<R: Threads + Wait + Sync + Abort>(
+    rt: &R,
+    alloc: Global,
+    files: &[(&str, &[u8])],
+    answers: (usize, u64),
+    pools: &[&str],
+) -> Result<(), NoMemory> {
+    for pool in pools {
+        let words = format!(in alloc; "query pts ann ask --search 16 --k 3 {pool}")?;
+        let ended = call(rt, alloc, words.as_str(), files, NONE)?;
+        assert_eq!(rt; ended.status.code, 0, "{pool}");
+        let lines = ended.out.bytes();
+        assert_eq!(rt; (lines.len(), sum_of(lines)), answers, "{pool}");
     }
     Ok(())
 }
@@ -94,20 +122,14 @@ pub(crate) fn assert_answers<R: Threads + Wait + Sync + Abort>(
     wanted: Wanted,
     pools: &[&str],
 ) -> Result<(), NoMemory> {
-    let data = made_file(alloc, 2000, 1)?;
-    let points = data.bytes("pts").unwrap_or(&[]);
-    let asked = made_file(alloc, 5000, 2)?;
-    let queries = asked.bytes("pts").unwrap_or(&[]);
-    assert_eq!(rt; sum_of(queries), QUERIES);
+    let asked = made_file(rt, alloc, 5000, 2, QUERIES)?;
+    let data = made_file(rt, alloc, 2000, 1, POINTS)?;
+    let points = bytes_in(&data, "pts");
     let ended = built(rt, alloc, points, wanted.settings, "--pool steal")?;
-    let index = ended.shelf.bytes("ann").unwrap_or(&[]);
-    let files = [("pts", points), ("ann", index), ("ask", queries)];
-    for pool in pools {
-        let words = format!(in alloc; "query pts ann ask --search 16 --k 3 {pool}")?;
-        let ended = call(rt, alloc, words.as_str(), &files, NONE)?;
-        assert_eq!(rt; ended.status.code, 0, "{pool}");
-        let lines = ended.out.bytes();
-        assert_eq!(rt; (lines.len(), sum_of(lines)), wanted.answers, "{pool}");
-    }
-    Ok(())
+    let files = [
+        ("pts", points),
+        ("ann", bytes_in(&ended.shelf, "ann")),
+        ("ask", bytes_in(&asked, "pts")),
+    ];
+    assert_lines(rt, alloc, &files, wanted.answers, pools)
 }
