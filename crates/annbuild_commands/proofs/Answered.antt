@@ -1,5 +1,5 @@
 -- How what words ask for ends.
-use Rattle.std.proofs.Common.{◌≡◌, ◌∙◌, ℕ, true, false, sym, subst, Option, Some, None, IfSome, IfNone, List}
+use Rattle.std.proofs.Common.{◌≡◌, ◌∙◌, ℕ, true, false, sym, subst, Option, Some, IfSome, IfNone, List}
 use Rattle.std.specs.Prelude.{◌⊎◌}
 use Rattle.ann_shelf.specs.Faults.{Rose}
 use Rattle.ann_shelf.specs.Shown.{Shown}

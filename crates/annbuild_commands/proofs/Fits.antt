@@ -25,7 +25,7 @@ use Rattle.annbuild_commands.specs.Fitting.{differs, group_at, digest_unfit, sta
 use Rattle.annbuild_commands.specs.Querying.{answers_with, answers_in}
 use Rattle.annbuild_commands.specs.Checking.{checked_of, checked_with, checked_in}
 
-some_same : (u v : Fault) → Some u ≡ Some v → u ≡ v
+pub some_same : (u v : Fault) → Some u ≡ Some v → u ≡ v
 some_same u v s = cc
 
 one_fault : (a : Bool) (x fault : Fault) → IsOfFiles x → cond (not a) (Some x) None ≡ Some fault → IsOfFiles fault

@@ -1,13 +1,10 @@
 -- The index that a build gives, its line, and the words of its rows.
-use Rattle.std.proofs.Common.{◌≡◌, ◌≤◌, ℕ, List, length, refl, sym, ap, subst, Result, Ok, Err, IfOk, OnOk, Some, None, Bool, true, false, cond, nat_lt}
+use Rattle.std.proofs.Common.{◌≡◌, ◌≤◌, ℕ, length, refl, sym, subst, Result, Ok, Err, IfOk, OnOk, Some, None, Bool, true, false, cond, nat_lt}
 use Rattle.ann_defs.specs.declared.kinds.Kind.{Kind}
 use Rattle.ann_defs.specs.declared.kinds.Kind.TheVariants.{Vamana, Hnsw, Nnd}
 use Rattle.ann_shelf.specs.declared.slip.Quantity.{Quantity}
 use Rattle.graph_rows.specs.Index.{Contents, text_of, edges_of, longest_of}
 use Rattle.graph_rows.specs.View.{kind_code}
-use Rattle.vamana_build.specs.declared.settings.VamanaSettings.{VamanaSettings}
-use Rattle.vamana_build.specs.Builds.{order_of}
-use Rattle.vamana_build.specs.VamanaIndex.{vamana_index}
 use Rattle.annbuild_lines.specs.Lines.{built_text, checked_text}
 use Rattle.annbuild_lines.specs.declared.fault.Fault.{Fault}
 use Rattle.annbuild_lines.specs.declared.fault.Fault.TheVariants.{TooLarge}
@@ -17,10 +14,11 @@ use Rattle.command_options.specs.declared.verb.Verb.{Verb}
 use Rattle.command_options.specs.Settings.{IsInRange}
 use Rattle.command_options.specs.Shapes.{shape_kind}
 use Rattle.command_options.specs.Forms.{greatest_degree}
-use Rattle.index_build.specs.IndexOf.{AreForBuild, vamana_of, vamana_rows, vamana_batches, hnsw_of, nnd_of, hnsw_settings, levels_for, index_by, index_of}
+use Rattle.index_build.specs.IndexOf.{AreForBuild}
 use Rattle.annbuild_commands.specs.IndexTexts.{file_of, line_of, told_of, kind_at}
 use Rattle.index_build.specs.Limits.{limit_refusal}
 use Rattle.annbuild_commands.specs.Checking.{checked_of}
+use Rattle.annbuild_commands.proofs.Fits.{some_same}
 
 pub file_is : (i : Contents) → text_of i ≡ file_of i
 unfolding file_of
@@ -33,9 +31,6 @@ line_is i = refl
 pub checked_is : (i : Contents) → checked_text (told_of i) (longest_of i) ≡ checked_of i
 unfolding checked_of
 checked_is i = refl
-
-some_same : (u v : Fault) → Some u ≡ Some v → u ≡ v
-some_same u v s = cc
 
 none_is_some : (u : Fault) → None ≡ Some u → ⊥
 none_is_some u e = cc

@@ -1,5 +1,6 @@
 pub mod IndexFacts
 pub mod Fits
+pub mod FailedReads
 pub mod BuildFacts
 pub mod QueryFacts
 pub mod Tells
@@ -11,3 +12,4 @@ pub mod TrialFacts
 pub mod FirstWord
 pub mod LiveFacts
 pub mod Answered
+pub mod Asking

@@ -1,6 +1,6 @@
 -- A session over points and queries, as `live` tells of it.
-use Rattle.std.proofs.Common.{◌≡◌, ◌∙◌, ◌+◌, ◌*◌, ◌≤◌, ℕ, suc, zero, Bool, true, false, List, [], ◌∷◌, ◌++◌, map, take, drop, length, nat_le, refl, sym, ap, subst, arith, inl, inr, Option, Some, None, IfSome, Result, Ok, Err, IfOk, OnOk}
-use Rattle.std.specs.Prelude.{◌⊎◌, ◌==◌, ◌&&◌, zip}
+use Rattle.std.proofs.Common.{◌≡◌, ◌∙◌, ◌*◌, ◌≤◌, ℕ, suc, true, List, [], ◌∷◌, ◌++◌, map, drop, length, nat_le, refl, sym, ap, subst, arith, Option, Some, None, IfSome, Result, Ok, Err, IfOk, OnOk}
+use Rattle.std.specs.Prelude.{◌==◌, ◌&&◌, zip}
 use Rattle.std.specs.List.{All, list_all}
 use Rattle.std.specs.Option.{option_or}
 use Rattle.std.proofs.lemmas.Bool.{eqb-true}
@@ -9,10 +9,9 @@ use Rattle.ann_defs.proofs.Members.{and_both, all_from_has}
 use Rattle.ann_defs.proofs.Order.{has-map}
 use Rattle.ann_defs.specs.Graph.{row_in}
 use Rattle.ann_defs.specs.GreedySearch.{answer_of, found_of}
-use Rattle.ann_defs.specs.declared.near.Near.{Near}
 use Rattle.ann_defs.specs.declared.kinds.Kind.{Kind}
 use Rattle.ann_defs.specs.declared.kinds.Kind.TheVariants.{Vamana, Hnsw, Nnd}
-use Rattle.ann_defs.specs.declared.limits.TheConstants.{MAX_ANSWERS, MAX_POINTS, MAX_WORDS}
+use Rattle.ann_defs.specs.declared.limits.TheConstants.{MAX_ANSWERS, MAX_WORDS}
 use Rattle.ann_defs.specs.Distance.{PointSet}
 use Rattle.ann_shelf.specs.Files.{Files, bytes_of, with_file}
 use Rattle.ann_shelf.specs.declared.slip.Quantity.TheVariants.{Words, Answers}
@@ -21,7 +20,7 @@ use Rattle.bin_files.proofs.Pieces.{both_told}
 use Rattle.graph_rows.specs.Index.{Contents, text_of}
 use Rattle.graph_rows.specs.View.{contents}
 use Rattle.graph_rows.specs.WellFormed.{IsWellFormed}
-use Rattle.vamana_build.specs.Builds.{order_of, start_of, batches_of, rows_at, graph_at}
+use Rattle.vamana_build.specs.Builds.{order_of, start_of, rows_at}
 use Rattle.vamana_build.specs.VamanaIndex.{vamana_index}
 use Rattle.vamana_build.specs.declared.settings.VamanaSettings.{VamanaSettings}
 use Rattle.versions.specs.Course.{Course, answer_at, total_of}
@@ -45,7 +44,7 @@ use Rattle.annbuild_commands.specs.Fitting.{queries_unfit}
 use Rattle.index_build.specs.Stamping.{stamp_for}
 use Rattle.index_build.specs.IndexOf.{index_of, index_by, words_by, words_of, vamana_words, vamana_of, vamana_rows, vamana_batches, vamana_start}
 use Rattle.annbuild_commands.specs.IndexTexts.{file_of, line_of}
-use Rattle.index_build.specs.Limits.{words_refusal, answers_refusal, limit_refusal}
+use Rattle.index_build.specs.Limits.{words_refusal, answers_refusal}
 use Rattle.annbuild_commands.specs.Living.{living, live_refusal, answer_after, answers_beside, answers_last, batch_line, live_pieces, may_run, IsSession, AreTold, AreAsked}
 use Rattle.annbuild_commands.proofs.Fits.{either_fault, queries_only}
 use Rattle.graph_rows.specs.declared.stamp.Stamp.{Stamp}

@@ -3,6 +3,7 @@ pub mod Fitting
 pub mod Building
 pub mod Querying
 pub mod Checking
+pub mod Indexed
 pub mod Making
 pub mod Trying
 pub mod Living

@@ -5,7 +5,9 @@ ghost use Rattle.annbuild_lines.specs.Codes.{code_of};
 ghost use Rattle.annbuild_commands.specs.Ending.{IsNoCommand, begins_live};
 ghost use Rattle.annbuild_commands.specs.Promises.{Promises};
 
-use crate::carried::{do_live, settle};
+use crate::live::live;
+use crate::request::read_request;
+use crate::told::settle;
 use ann_shelf::{Gate, Out, Shelf};
 use annbuild_lines::Status;
 use std::alloc::Global;
@@ -32,6 +34,11 @@ pub fn run_live<R: Threads + Wait + Sync, F: Shelf, O: Out, G: Gate + Sync>(
     ensures untouched { IsNoCommand (request_of (map (λ w. string_bytes w) words.now)) → (shelf.new ≡ shelf.old) × (out.new ≡ out.old) }
     ensures promises { Promises (request_of (map (λ w. string_bytes w) words.now)) (F.shown shelf.old) (F.shown shelf.new) (O.got out.old) (O.got out.new) (O.got err.old) (O.got err.new) result.fault }
 {
-    let done = do_live(rt, alloc, words, shelf, out, gate);
-    settle(err, done)
+    match read_request(alloc, words) {
+        Ok(parsed) => {
+            let done = live(rt, alloc, &parsed.request(), shelf, out, gate);
+            settle(err, done)
+        }
+        Err(fault) => settle(err, Err(fault)),
+    }
 }

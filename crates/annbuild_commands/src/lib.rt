@@ -10,7 +10,6 @@
 mod batch_lines;
 mod beside;
 mod build;
-mod carried;
 mod check;
 mod index_told;
 mod inputs;

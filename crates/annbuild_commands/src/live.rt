@@ -1,11 +1,10 @@
 //! `live`: the index of a file of points, built while callers ask it.
-ghost use Rattle.std.specs.Prelude.{◌≡◌, ◌+◌, ◌*◌, ◌≤◌, IfOk, IfErr, length, vec_capacity};
+ghost use Rattle.std.specs.Prelude.{◌≡◌, ◌+◌, ◌*◌, ◌≤◌, IfOk, length, vec_capacity};
 ghost use Rattle.ann_defs.specs.Distance.{dim_of};
 ghost use Rattle.ann_defs.specs.declared.limits.TheConstants.{MAX_ANSWERS, MAX_WORDS};
 ghost use Rattle.bin_files.specs.Rows.{ArePoints};
 ghost use Rattle.command_options.specs.Settings.{IsInRange};
 ghost use Rattle.command_options.specs.declared.verb.Verb.TheVariants as verbs;
-ghost use Rattle.annbuild_lines.specs.declared.fault.Fault.TheVariants.{NoMemory as NoMemoryFault};
 ghost use Rattle.command_shapes.specs.Ends.{Ends, fault_in};
 ghost use Rattle.graph_rows.specs.Stamps.{stamped};
 ghost use Rattle.graph_rows.specs.View.{contents};
@@ -97,30 +96,6 @@ fn make_session<R: Threads + Wait + Sync, G: Gate + Sync>(
     Ok(Heard { session, buffer })
 }
 
-/// The same, with the fault of the program.
-fn session_for<R: Threads + Wait + Sync, G: Gate + Sync>(
-    rt: &R,
-    alloc: Global,
-    inputs: &LiveInputs,
-    options: &Settings,
-    gate: &G,
-) -> Result<Heard, Fault>
-    requires options { IsInRange verbs.Live options.now }
-    requires dim { dim_of inputs.now.queries.vectors ≡ dim_of inputs.now.points.vectors }
-    requires words { vamana_words (length inputs.now.points.vectors) options.now ≤ MAX_WORDS }
-    requires answers { length inputs.now.queries.vectors * options.now.k ≤ MAX_ANSWERS }
-    requires asked { ArePoints inputs.now.queries.vectors }
-    ensures session { IfOk result (λ h. IsSession inputs.now.points inputs.now.queries.vectors options.now h.session) }
-    ensures asked { IfOk result (λ h. AreAsked options.now h.session) }
-    ensures room { IfOk result (λ h. 22 * options.now.k + 27 ≤ vec_capacity h.buffer) }
-    ensures failed { IfErr result (λ fault. fault ≡ NoMemoryFault) }
-{
-    match make_session(rt, alloc, inputs, options, gate) {
-        Ok(heard) => Ok(heard),
-        Err(NoMemory) => Err(Fault::NoMemory),
-    }
-}
-
 /// Builds the index of points while callers ask, stores it, and tells of it and of their answers.
 fn told_live<R: Threads + Wait + Sync, F: Shelf, O: Out, G: Gate + Sync>(
     rt: &R,
@@ -142,7 +117,7 @@ fn told_live<R: Threads + Wait + Sync, F: Shelf, O: Out, G: Gate + Sync>(
     let Heard {
         session,
         mut buffer,
-    } = session_for(rt, alloc, inputs, options, gate)?;
+    } = make_session(rt, alloc, inputs, options, gate)?;
     let told = line_of_built(&session.index);
     store(shelf, Role::Index, name, &session.index)?;
     print_session(&session, told.as_slice(), &mut buffer, out)

@@ -31,24 +31,6 @@ pub(crate) struct LiveInputs {
     pub queries: Points,
 }
 
-/// Reads both files, in their order.
-fn read_both<F: Shelf>(
-    alloc: Global,
-    request: &Request<'_>,
-    shelf: &mut F,
-) -> Result<LiveInputs, Fault>
-    ensures points { IfOk result (λ x. IfSome (F.shown shelf.old).held (λ files. AreOf roles.Base request.now.settings.element (bytes_of files request.now.names.first.now) x.points)) }
-    ensures queries { IfOk result (λ x. IfSome (F.shown shelf.old).held (λ files. AreOf roles.Queries request.now.settings.element (bytes_of files request.now.names.third.now) x.queries)) }
-    ensures asked { IfOk result (λ x. ArePoints x.queries.vectors) }
-    ensures read { OnOk result (HaveRead (living request.now.names.first.now request.now.names.second.now request.now.names.third.now request.now.settings).reads (F.shown shelf.old) (F.shown shelf.new)) }
-    ensures failed { IfErr result (λ fault. (had : Got) → Ends (living request.now.names.first.now request.now.names.second.now request.now.names.third.now request.now.settings) (F.shown shelf.old) (F.shown shelf.new) had had (Some fault)) }
-{
-    let element = request.settings.element;
-    let points = read_points_of(alloc, shelf, Role::Base, request.names.first, element)?;
-    let queries = read_points_of(alloc, shelf, Role::Queries, request.names.third, element)?;
-    Ok(LiveInputs { points, queries })
-}
-
 /// Refuses an index of too many words, and then too many answers.
 fn check_sizes(points: &Points, queries: &Points, options: &Settings) -> Result<(), Fault>
     ensures words { OnOk result (vamana_words (length points.now.vectors) options.now ≤ MAX_WORDS) }
@@ -76,7 +58,7 @@ fn check_live(points: &Points, queries: &Points, options: &Settings) -> Result<(
     }
 }
 
-/// Reads both files, and refuses them where they don't fit together or are too large. Nothing is written.
+/// Reads both files, in their order, and refuses them where they don't fit together or are too large. Nothing is written.
 pub(crate) fn read_live<F: Shelf>(
     alloc: Global,
     request: &Request<'_>,
@@ -93,9 +75,11 @@ pub(crate) fn read_live<F: Shelf>(
     ensures read { OnOk result (HaveRead (living request.now.names.first.now request.now.names.second.now request.now.names.third.now request.now.settings).reads (F.shown shelf.old) (F.shown shelf.new)) }
     ensures failed { IfErr result (λ fault. (had : Got) → Ends (living request.now.names.first.now request.now.names.second.now request.now.names.third.now request.now.settings) (F.shown shelf.old) (F.shown shelf.new) had had (Some fault)) }
 {
-    let inputs = read_both(alloc, request, shelf)?;
-    match check_live(&inputs.points, &inputs.queries, &request.settings) {
-        Ok(()) => Ok(inputs),
+    let element = request.settings.element;
+    let points = read_points_of(alloc, shelf, Role::Base, request.names.first, element)?;
+    let queries = read_points_of(alloc, shelf, Role::Queries, request.names.third, element)?;
+    match check_live(&points, &queries, &request.settings) {
+        Ok(()) => Ok(LiveInputs { points, queries }),
         Err(fault) => Err(fault),
     }
 }

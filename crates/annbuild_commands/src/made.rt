@@ -24,10 +24,8 @@ pub(crate) fn points_for(alloc: Global, options: &Settings) -> Result<Points, Fa
     ensures failed { IfErr result (λ fault. (cells_refusal options.now.count options.now.dim ≡ Some fault) ⊎ (fault ≡ NoMemoryFault)) }
 {
     check_cells(options.count, options.dim)?;
-    match made_points(alloc, options.count, options.dim, options.seed, 0) {
-        Ok(points) => Ok(points),
-        Err(NoMemory) => Err(Fault::NoMemory),
-    }
+    let points = made_points(alloc, options.count, options.dim, options.seed, 0)?;
+    Ok(points)
 }
 
 /// Makes the queries of a trial: the generator's bytes behind those of the points.

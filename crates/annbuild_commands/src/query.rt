@@ -12,7 +12,7 @@ ghost use Rattle.annbuild_commands.specs.Fitting.{unfit_in};
 ghost use Rattle.annbuild_commands.specs.Querying.{querying, all_answers};
 
 use crate::inputs::{Inputs, read_inputs};
-use ann_shelf::{Gate, NoMemory, Out, Shelf};
+use ann_shelf::{Gate, Out, Shelf};
 use annbuild_lines::Fault;
 use annbuild_words::{Request, Settings};
 use batch_search::{QueryBatch, posts_for};
@@ -33,10 +33,7 @@ fn answer_on<R: Threads + Sync, P: Rounds, O: Out, G: Gate + Sync>(
 ) -> Result<(), Fault>
     ensures { Printed (lines_from 0 (all_answers batch.now)) (O.got out.old) (O.got out.new) (fault_in result) }
 {
-    let mut posts = match posts_for(alloc, batch.points, batch.beam, pool.workers()) {
-        Ok(posts) => posts,
-        Err(NoMemory) => return Err(Fault::NoMemory),
-    };
+    let mut posts = posts_for(alloc, batch.points, batch.beam, pool.workers())?;
     answer_and_print(rt, alloc, batch, pool, posts.as_mut_slice(), out, gate)
 }
 
@@ -50,13 +47,13 @@ fn answered<R: Threads + Sync, O: Out, G: Gate + Sync>(
     gate: &G,
 ) -> Result<(), Fault>
     requires options { IsInRange verbs.Query options.now }
-    requires well_formed { IsWellFormed (contents inputs.now.index) }
-    requires fit { unfit_in inputs.now.points (contents inputs.now.index) inputs.now.queries.vectors ≡ None }
-    ensures { Printed (lines_from 0 (answers_of inputs.now.points.vectors (contents inputs.now.index) options.now.search options.now.k inputs.now.queries.vectors)) (O.got out.old) (O.got out.new) (fault_in result) }
+    requires well_formed { IsWellFormed (contents inputs.now.indexed.index) }
+    requires fit { unfit_in inputs.now.indexed.points (contents inputs.now.indexed.index) inputs.now.queries.vectors ≡ None }
+    ensures { Printed (lines_from 0 (answers_of inputs.now.indexed.points.vectors (contents inputs.now.indexed.index) options.now.search options.now.k inputs.now.queries.vectors)) (O.got out.old) (O.got out.new) (fault_in result) }
 {
     let batch = QueryBatch::new(
-        &inputs.points,
-        &inputs.index,
+        &inputs.indexed.points,
+        &inputs.indexed.index,
         &inputs.queries,
         options.search,
         options.k,

@@ -115,10 +115,7 @@ pub(crate) fn trial<R: Threads + Sync, O: Out, G: Gate + Sync>(
     ensures { (shown : Shown) → Ends (trying options.now) shown shown (O.got out.old) (O.got out.new) (fault_in result) }
 {
     let built = tried(rt, alloc, options, gate)?;
-    let second = match summary(rt, alloc, &built, options, gate) {
-        Ok(line) => line,
-        Err(NoMemory) => return Err(Fault::NoMemory),
-    };
+    let second = summary(rt, alloc, &built, options, gate)?;
     let first = line_of_built(&built.index);
     print_both(out, first.as_slice(), second.as_slice())
 }

@@ -1,4 +1,4 @@
-use Rattle.std.proofs.Common.{◌≡◌, ◌∙◌, ◌≤◌, ◌++◌, ℕ, List, [], ◌∷◌, length, subst, sym, arith}
+use Rattle.std.proofs.Common.{◌≤◌, ◌++◌, ℕ, List, [], ◌∷◌, length, subst, arith}
 use Rattle.ann_defs.specs.declared.near.Near.{Near}
 use Rattle.annbuild_lines.specs.declared.batch_line.Moment.{Moment}
 use Rattle.annbuild_lines.specs.declared.batch_line.Moment.TheVariants.{During, After}

@@ -20,6 +20,6 @@ returns g c =
     let line = c.as_slice.result.now in
     after_reading (checking c.args.request.now.names.first.now c.args.request.now.names.second.now c.args.request.now.settings) None (λ run. true) (λ run. line ∷ []) old new new had got (fault_in c.print.result)
     (check_leads old.held c.args.request.now.names.first.now c.args.request.now.names.second.now c.args.request.now.settings c.in_ok-both.both.points (contents c.in_ok-both.both.index) line
-    c.in_ok-both.ensures.points c.in_ok-both.ensures.index c.in_ok-both.ensures.read.accepted c.in_ok-both.ensures.fit (c.as_slice.ensures.value ∙ c.line_of_checked-told.ensures))
+    c.in_ok-both.ensures.indexed.points c.in_ok-both.ensures.indexed.index c.in_ok-both.ensures.read.accepted c.in_ok-both.ensures.fit (c.as_slice.ensures.value ∙ c.line_of_checked-told.ensures))
     c.in_ok-both.ensures.read.only (λ rose role h. h)
     (then_printed None (line ∷ []) new new had got (fault_in c.print.result) (told_here new.held (λ files e. e)) (λ files e. inl refl) c.print.ensures.printed)

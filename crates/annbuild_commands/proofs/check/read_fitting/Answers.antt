@@ -1,4 +1,4 @@
-use Rattle.std.proofs.Common.{◌∙◌, sym, refl, Some}
+use Rattle.std.proofs.Common.{◌∙◌, [], sym, refl, Some}
 use Rattle.ann_shelf.specs.Files.{bytes_of}
 use Rattle.bin_files.proofs.Pieces.{both_told}
 use Rattle.graph_rows.specs.View.{contents}
@@ -7,16 +7,24 @@ use Rattle.command_shapes.specs.Ends.{Ends}
 use Rattle.command_shapes.proofs.Told.{on_fault}
 use Rattle.command_shapes.proofs.Ending.{fails_rest}
 use Rattle.annbuild_commands.specs.Checking.{checking}
+use Rattle.annbuild_commands.proofs.FailedReads.{fails_among}
 use Rattle.annbuild_commands.proofs.Fits.{index_only, index_unfit_read}
 use Rattle.annbuild_commands.proofs.check.read_fitting.Goals as goal
 
 pub returns-in_err-both-clause-failed : goal.returns-in_err-both-clause-failed
-returns-in_err-both-clause-failed g c = on_fault c.from_residual.result _ (λ fault. (had : Got) → Ends (checking c.args.request.now.names.first.now c.args.request.now.names.second.now c.args.request.now.settings) (g.F.Shelf.shown c.args.shelf.now) (g.F.Shelf.shown c.read_both.new.shelf) had had (Some fault)) c.from_residual.ensures.1 c.in_err-both.ensures.failed
+returns-in_err-both-clause-failed g c =
+    let names = c.args.request.now.names in
+    let doing = checking names.first.now names.second.now c.args.request.now.settings in
+    on_fault c.from_residual.result _ (λ fault. (had : Got) → Ends doing (g.F.Shelf.shown c.args.shelf.now) (g.F.Shelf.shown c.read_indexed.new.shelf) had had (Some fault)) c.from_residual.ensures.1
+    (λ had. fails_among doing [] _ _ _ had _ refl c.in_err-both.ensures.failed)
 
 pub returns-in-Some-clause-failed : goal.returns-in-Some-clause-failed
 returns-in-Some-clause-failed g c had =
+    let names = c.args.request.now.names in
+    let o = c.args.request.now.settings in
     let X = c.in_ok-both.both.points in
     let i = contents c.in_ok-both.both.index in
-    fails_rest (checking c.args.request.now.names.first.now c.args.request.now.names.second.now c.args.request.now.settings) (g.F.Shelf.shown c.args.shelf.now) (g.F.Shelf.shown c.read_both.new.shelf) had c.in-Some.fault (index_only X i c.in-Some.fault (sym c.in-Some.ensures)) c.in_ok-both.ensures.read
-    (both_told (g.F.Shelf.shown c.args.shelf.now).held (g.F.Shelf.shown c.args.shelf.now).held refl c.in_ok-both.ensures.points c.in_ok-both.ensures.index (λ files of is.
-    index_unfit_read c.args.request.now.settings.element (bytes_of files c.args.request.now.names.first.now) (bytes_of files c.args.request.now.names.second.now) X i of is ∙ sym c.in-Some.ensures))
+    let old = g.F.Shelf.shown c.args.shelf.now in
+    fails_rest (checking names.first.now names.second.now o) old (g.F.Shelf.shown c.read_indexed.new.shelf) had c.in-Some.fault (index_only X i c.in-Some.fault (sym c.in-Some.ensures)) c.in_ok-both.ensures.read
+    (both_told old.held old.held refl c.in_ok-both.ensures.indexed.points c.in_ok-both.ensures.indexed.index (λ files of is.
+    index_unfit_read o.element (bytes_of files names.first.now) (bytes_of files names.second.now) X i of is ∙ sym c.in-Some.ensures))

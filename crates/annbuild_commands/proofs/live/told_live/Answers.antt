@@ -1,17 +1,14 @@
-use Rattle.std.proofs.Common.{◌∙◌, [], ◌∷◌, ◌++◌, inr, refl, sym, ap, subst, Some}
+use Rattle.std.proofs.Common.{◌∙◌, inr, refl, subst, Some}
 use Rattle.graph_rows.specs.Index.{text_of}
 use Rattle.graph_rows.specs.View.{contents}
 use Rattle.live_session.specs.LiveAnswers.{batches_in}
 use Rattle.command_options.specs.declared.role.Role.TheVariants.{Index}
-use Rattle.annbuild_lines.specs.declared.batch_line.Moment.TheVariants.{During, After}
-use Rattle.annbuild_lines.specs.declared.fault.Fault.TheVariants.{NoMemory}
 use Rattle.command_shapes.specs.Ends.{Ends, fault_in}
 use Rattle.command_shapes.specs.Writing.{Printed, writing_runs, stored_as}
 use Rattle.command_shapes.proofs.Told.{fault_passed, no_memory_in}
 use Rattle.command_shapes.proofs.Ending.{fails_memory}
 use Rattle.command_shapes.proofs.WrittenFacts.{then_run_printed}
 use Rattle.annbuild_commands.specs.Living.{telling, may_run, live_pieces}
-use Rattle.annbuild_commands.proofs.IndexFacts.{line_is}
 use Rattle.annbuild_commands.proofs.LiveFacts.{session_text, session_pieces}
 use Rattle.annbuild_commands.proofs.live.told_live.Goals as goal
 
@@ -20,8 +17,7 @@ returns-in_err-session g c =
     let doing = telling c.args.inputs.now.points c.args.inputs.now.queries.vectors c.args.name.now c.args.options.now in
     let old = g.F.Shelf.shown c.args.shelf.now in
     let had = g.O.Out.got c.args.out.now in
-    subst (Ends doing old old had had) (fault_passed c.from_residual.result _ c.from_residual.ensures.1)
-    (subst (λ f. Ends doing old old had had (Some f)) (sym c.in_err-session.ensures.failed) (fails_memory doing old old had refl))
+    subst (Ends doing old old had had) (fault_passed c.from_residual.result _ c.from_residual.ensures.1) (fails_memory doing old old had refl)
 
 pub returns-in_err-store : goal.returns-in_err-store
 returns-in_err-store g c =

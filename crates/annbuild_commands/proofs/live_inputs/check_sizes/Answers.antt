@@ -1,4 +1,4 @@
-use Rattle.std.proofs.Common.{◌≡◌, ◌∙◌, ap, length, sym, Some, None}
+use Rattle.std.proofs.Common.{◌≡◌, ◌∙◌, ap, length, sym, Some}
 use Rattle.std.specs.Option.{option_or}
 use Rattle.command_shapes.proofs.Told.{on_fault}
 use Rattle.index_build.specs.IndexOf.{vamana_words}

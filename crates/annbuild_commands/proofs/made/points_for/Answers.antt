@@ -1,5 +1,5 @@
 use Rattle.annbuild_commands.proofs.MakeFacts.{points_are}
 use Rattle.annbuild_commands.proofs.made.points_for.Goals as goal
 
-pub returns-in-Ok-clause-points : goal.returns-in-Ok-clause-points
-returns-in-Ok-clause-points c = points_are c.in-Ok.points c.args.options.now c.in-Ok.ensures.vectors c.in-Ok.ensures.element
+pub returns-clause-points : goal.returns-clause-points
+returns-clause-points c = points_are c.in_ok-points.points c.args.options.now c.in_ok-points.ensures.vectors c.in_ok-points.ensures.element

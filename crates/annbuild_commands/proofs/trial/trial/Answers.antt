@@ -13,8 +13,9 @@ pub returns-in_err-built : goal.returns-in_err-built
 returns-in_err-built g c shown = subst (Ends (trying c.args.options.now) shown shown (g.O.Out.got c.args.out.now) (g.O.Out.got c.args.out.now)) (fault_passed c.from_residual.result _ c.from_residual.ensures.1)
     (trial_fault c.args.options.now _ c.in_err-built.ensures.failed shown (g.O.Out.got c.args.out.now))
 
-pub returns-in-Err : goal.returns-in-Err
-returns-in-Err g c shown = trial_fault c.args.options.now _ (inr refl) shown (g.O.Out.got c.args.out.now)
+pub returns-in_err-second : goal.returns-in_err-second
+returns-in_err-second g c shown = subst (Ends (trying c.args.options.now) shown shown (g.O.Out.got c.args.out.now) (g.O.Out.got c.args.out.now)) (fault_passed c.from_residual-in_err-second.result _ c.from_residual-in_err-second.ensures.1)
+    (trial_fault c.args.options.now _ (inr refl) shown (g.O.Out.got c.args.out.now))
 
 pub returns : goal.returns
 returns g c shown =
@@ -24,6 +25,6 @@ returns g c shown =
     let second = c.as_slice-2.result.now in
     after_reading (trying c.args.options.now) None (λ run. true) (λ run. first ∷ second ∷ []) shown shown shown had got (fault_in c.print_both.result)
     (told_here shown.held (λ files e. trial_leads files c.args.options.now (contents c.in_ok-built.built.index) first second c.in_ok-built.ensures.fits c.in_ok-built.ensures.index
-    (c.as_slice.ensures.value ∙ c.line_of_built-first.ensures) (c.as_slice-2.ensures.value ∙ c.in-Ok.ensures)))
+    (c.as_slice.ensures.value ∙ c.line_of_built-first.ensures) (c.as_slice-2.ensures.value ∙ c.in_ok-second.ensures)))
     (none_read shown).only (λ rose role h. h)
     (then_printed None (first ∷ second ∷ []) shown shown had got (fault_in c.print_both.result) (told_here shown.held (λ files e. e)) (λ files e. inl refl) c.print_both.ensures)
