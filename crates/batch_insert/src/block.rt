@@ -3,16 +3,15 @@ ghost use Rattle.std.specs.Prelude.{◌≡◌, ◌+◌, ◌^◌, ◌<◌, ◌≤
 ghost use Rattle.graph_rows.specs.Blocks.{row_in};
 ghost use Rattle.batch_insert.specs.Padded.{padded};
 
+use steal_pool::seal_block;
+
 /// Makes a block of a row that stands behind its first word: its length, its ids, and zeros.
 pub fn seal(out: &mut [u32], len: usize)
     requires room { len + 1 ≤ length out.old }
     requires small { len < 2 ^ 32 }
     ensures { out.new ≡ padded (length out.old) (take len (drop 1 out.old)) }
 {
-    out[0] = len as u32;
-    for i in len + 1..out.len() {
-        out[i] = 0;
-    }
+    seal_block(out, len, len);
 }
 
 /// The row in a block.

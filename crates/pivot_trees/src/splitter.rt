@@ -1,5 +1,5 @@
 //! The split of one list.
-ghost use Rattle.std.specs.Prelude.{◌≡◌, ◌+◌, ◌-◌, ◌^◌, ◌<◌, ◌≤◌, ◌++◌, ◌∷◌, length, replicate, slice_index, take, drop};
+ghost use Rattle.std.specs.Prelude.{◌≡◌, ◌+◌, ◌^◌, ◌<◌, ◌≤◌, ◌++◌, length, slice_index};
 ghost use Rattle.std.specs.List.{All};
 ghost use Rattle.pivot_trees.specs.Blocks.{block_of};
 ghost use Rattle.pivot_trees.specs.Leaves.{first_place, second_place, parts_of};
@@ -7,6 +7,7 @@ ghost use Rattle.pivot_trees.specs.Leaves.{first_place, second_place, parts_of};
 use crate::sides::write_sides;
 use bin_files::Points;
 use seeded_order::word;
+use steal_pool::seal_block;
 
 /// The greatest depth whose lists are split by their pivots.
 const MAX_DEPTH: u32 = 48;
@@ -66,18 +67,6 @@ impl<'a> Splitter<'a> {
         ensures { out.new ≡ block_of (length out.old) (parts_of self.now.points.now.vectors self.now.seed self.now.tree self.now.depth number ids.now) }
     {
         let left = self.write_parts(number, ids, &mut out[1..ids.len() + 1]);
-        seal(out, left, ids.len());
-    }
-}
-
-// Writes the first word of a block, and zeros behind the next `len` words.
-fn seal(out: &mut [u32], left: usize, len: usize)
-    requires room { len + 1 ≤ length out.old }
-    requires small { left < 2 ^ 32 }
-    ensures { out.new ≡ (left ∷ take len (drop 1 out.old)) ++ replicate (length out.old - (len + 1)) 0 }
-{
-    out[0] = left as u32;
-    for i in len + 1..out.len() {
-        out[i] = 0;
+        seal_block(out, left, ids.len());
     }
 }

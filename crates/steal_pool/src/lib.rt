@@ -8,9 +8,10 @@
 //! and `StealRounds` by shares whose tasks the workers claim and steal from each other. A `Pool` is any of them.
 //!
 //! A stolen round is a `Round`, over the table of `steal_table`: `Board`, `Pass` and `Claim` are its steps, and `Report`
-//! says who ran which task.
+//! says who ran which task. `seal_block` ends the writing of a block that begins with a number.
 #![tactic(auto)]
 
+mod block;
 mod fork;
 mod pool;
 mod post;
@@ -28,6 +29,7 @@ mod work;
 mod worker;
 
 pub use ann_defs::Way;
+pub use block::seal_block;
 pub use pool::Pool;
 pub use post::{Post, posts_of};
 pub use rayon_rounds::RayonRounds;

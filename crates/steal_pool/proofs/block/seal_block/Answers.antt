@@ -1,6 +1,6 @@
 use Rattle.std.proofs.Common.{◌≡◌, ◌∙◌, ◌+◌, ◌-◌, ◌<◌, ◌≤◌, ◌++◌, ◌∷◌, [], ap, sym, ℕ, List, replicate, suc, zero, length, take, drop, arith, length-set, append_assoc, refl}
 use Rattle.std.proofs.lemmas.List.{take_more_set}
-use Rattle.pivot_trees.proofs.splitter.seal.Goals as goal
+use Rattle.steal_pool.proofs.block.seal_block.Goals as goal
 
 replicate_more : (n : ℕ) → replicate {A = ℕ} (suc n) 0 ≡ replicate {A = ℕ} n 0 ++ 0 ∷ []
 replicate_more zero = refl
@@ -12,8 +12,8 @@ more_zeros i from h = let e : i + 1 - from ≡ suc (i - from) = omega arith in a
 pub loop-i-preserved : goal.loop-i-preserved
 loop-i-preserved c =
     let i = c.loop-i.i in
-    let front = c.args.left ∷ take c.args.len (drop 1 c.args.out.now) in
-    let within : i < length c.loop-i.out = omega (arith, c.loop-i.auto.out, c.loop-i-test.true, length-set c.args.out.now 0 c.args.left) in
+    let front = c.args.first ∷ take c.args.len (drop 1 c.args.out.now) in
+    let within : i < length c.loop-i.out = omega (arith, c.loop-i.auto.out, c.loop-i-test.true, length-set c.args.out.now 0 c.args.first) in
     record {
       front = take_more_set c.loop-i.out i 0 within
           ∙ ap (λ (xs : List ℕ). xs ++ 0 ∷ []) c.loop-i.invariant.front

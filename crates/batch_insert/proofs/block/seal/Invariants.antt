@@ -1,8 +1,0 @@
-use Rattle.std.proofs.Common.{◌≡◌, ◌++◌, ◌∷◌, ◌+◌, ◌-◌, length, take, drop, replicate}
-use Rattle.batch_insert.proofs.block.seal.Given as goal
-
-abbrev pub invariant-loop-i : goal.invariant-loop-i
-invariant-loop-i l = record {
-  front : take l.i l.out ≡ (l.len ∷ take l.len (drop 1 l.fn.out)) ++ replicate (l.i - (l.len + 1)) 0;
-  size : length l.out ≡ length l.fn.out;
-}
