@@ -11,9 +11,8 @@ use crate::batch::batch_change;
 use crate::layers::Layers;
 use crate::members::member_ids;
 use crate::plan::HnswPlan;
-use crate::posts::posts_for;
 use ann_shelf::{Gate, NoMemory};
-use beam_search::Scratch;
+use beam_search::{Scratch, posts_for};
 use graph_rows::{FlatGraph, Index, Kind, Layer};
 use prefix_batches::Batches;
 use std::alloc::Global;
@@ -62,7 +61,7 @@ impl<'p> Hnsw<'p> {
         let degree = plan.settings.degree;
         let base = FlatGraph::new(alloc, plan.points.count(), degree + degree)?;
         let upper = empty_layers(alloc, plan)?;
-        let posts = posts_for(alloc, plan, workers)?;
+        let posts = posts_for(alloc, plan.points, plan.settings.beam, workers)?;
         let mut batches = Batches::new(plan.points.count(), plan.cap);
         let next = batches.next();
         Ok(Hnsw {

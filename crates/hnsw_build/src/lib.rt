@@ -18,7 +18,6 @@ mod merges;
 mod new_rows;
 mod plan;
 mod point_rows;
-mod posts;
 mod settings;
 
 pub use ann_defs::OrderKind;

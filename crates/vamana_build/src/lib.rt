@@ -12,7 +12,6 @@ mod merges;
 mod new_rows;
 mod places;
 mod plan;
-mod posts;
 mod row;
 mod settings;
 mod settled;

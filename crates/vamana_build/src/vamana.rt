@@ -10,10 +10,9 @@ ghost use Rattle.vamana_build.specs.VamanaIndex.{vamana_index};
 use crate::change::BatchChange;
 use crate::places::next_places;
 use crate::plan::Plan;
-use crate::posts::posts_for;
 use crate::step::change_of;
 use ann_shelf::{Gate, NoMemory};
-use beam_search::Scratch;
+use beam_search::{Scratch, posts_for};
 use graph_rows::{FlatGraph, Index, Kind, Layer};
 use prefix_batches::Batches;
 use std::alloc::Global;
@@ -65,7 +64,7 @@ impl<'p> Vamana<'p> {
     {
         let graph = FlatGraph::new(alloc, plan.points.count(), plan.settings.degree)?;
         let settled = vec![in alloc; 0u8; plan.points.count() as usize]?;
-        let posts = posts_for(alloc, plan, workers)?;
+        let posts = posts_for(alloc, plan.points, plan.settings.beam, workers)?;
         let mut batches = Batches::new(plan.points.count(), plan.cap);
         let next = batches.next();
         Ok(Vamana {

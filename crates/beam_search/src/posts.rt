@@ -3,9 +3,9 @@ ghost use Rattle.std.specs.Prelude.{◌≡◌, ◌≤◌, IfOk, length};
 ghost use Rattle.steal_pool.specs.Work.{AllServe};
 ghost use Rattle.beam_search.specs.Serving.{Serves};
 
+use crate::scratch::Scratch;
 use ann_defs::{MAX_BEAM, MAX_WORKERS};
 use ann_shelf::NoMemory;
-use beam_search::Scratch;
 use bin_files::Points;
 use std::alloc::Global;
 use steal_pool::{Post, posts_of};
