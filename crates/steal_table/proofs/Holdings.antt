@@ -47,6 +47,14 @@ put_back m m' t z y has is = (ap (λ (x : Seated). x.1) is ∙ ap (λ (l : List 
 pub finish_sound : (size : Size) (m m'' : Seated) (number t : ℕ) (task : Option ℕ) (block : List ℕ) (e : Entry) → Sound size m number task block → m'' ≡ (with_entry m.0 e, []) → Sound size m'' number None []
 finish_sound size m m'' number t task block e h is = subst (λ (z : Seated). Sound size z number None []) (sym is) (h.0, h.1, refl, h.3, (refl, refl))
 
+-- a pass stays sound where its seat keeps its slot and what the view says of the seat
+pub still_sound : (size : Size) (m m' : Seated) (v : View) (number : ℕ) (task : Option ℕ) (block : List ℕ) → Sound size m number task block → v.live ≡ m.0.live → v.number ≡ m.0.number → v.held ≡ m.0.held → v.size ≡ m.0.size → m' ≡ (v, m.1) → Sound size m' number task block
+still_sound size m m' v number task block h live number_is held_is size_is is = subst (λ (z : Seated). Sound size z number task block) (sym is) (live ∙ h.0, number_is ∙ h.1, held_is ∙ h.2, size_is ∙ h.3, holds task h.4)
+  where
+    holds : (task : Option ℕ) → Holds size m block task → Holds size (v, m.1) block task
+    holds None k = k
+    holds (Some t) k = k
+
 pub held_width : (size : Size) (m : Seated) (number : ℕ) (task : Option ℕ) (block : List ℕ) → Sound size m number task block → IsSome m.0.held → length block ≡ size.width
 held_width size m number task block h some_held = at task (subst IsSome h.2 some_held) h.4
   where

@@ -1,5 +1,5 @@
 -- The caller takes over what a worker knows, and the rule stays.
-use Rattle.std.proofs.Common.{◌≡◌, ◌≢◌, ◌⊎◌, ℕ, zero, suc, ◌+◌, ◌<◌, List, [], ◌∷◌, ◌++◌, length, set, Some, None, true, true≢false, refl, sym, ap, ◌∙◌, subst, inl, inr, ⊎_elim, arith, Option}
+use Rattle.std.proofs.Common.{◌≡◌, ◌≢◌, ◌⊎◌, ℕ, zero, suc, ◌+◌, ◌<◌, List, [], ◌∷◌, ◌++◌, length, set, Some, None, true, true≢false, refl, sym, ap, ◌∙◌, subst, inl, inr, ⊎_elim, arith}
 use mathlib.Core.Option.{some}
 use mathlib.Core.Logic.{dite}
 use native.Mathlib.Decide.{ℕ_discrete}
@@ -10,8 +10,7 @@ use Rattle.steal_table.specs.declared.view.Size.{Size}
 use Rattle.steal_table.specs.declared.view.Entry.{Entry}
 use Rattle.steal_table.specs.declared.view.View.{View}
 use Rattle.steal_table.specs.Rule.{Table, held, Says, Live, HasEntry, CameBack, entry, Rule, taken_over, spent}
-use Rattle.steal_table.specs.Steps.{Seated, OnePerTask}
-use Rattle.steal_table.specs.Passes.{Holds, Sound}
+use Rattle.steal_table.specs.Steps.{OnePerTask}
 use Rattle.steal_table.proofs.Tables.{below_length}
 use Rattle.steal_table.proofs.Claims.{is_caller, at_caller, one_view}
 use Rattle.steal_table.proofs.Finishes.{at_push}
@@ -180,13 +179,3 @@ pub apart_in_one : (v w : View) → OnePerTask (taken_over v w) → (e f : Entry
 apart_in_one v w one e f a b same =
     let i = one a.0 (length v.entries + b.0) e f (at_longer v.entries w.entries a.0 e a.1) (at_second v.entries w.entries f b.0 b.1) same in
     let below = below_length v.entries a.0 e a.1 in absurd (omega arith)
-
-pub joined_sound : (size : Size) (m m' : Seated) (number : ℕ) (task : Option ℕ) (block : List ℕ) (w : View) → Sound size m number task block → m' ≡ (taken_over m.0 w, m.1) → Sound size m' number task block
-joined_sound size m m' number task block w h is = subst (λ (z : Seated). Sound size z number task block) (sym is) same
-  where
-    holds : (task : Option ℕ) → Holds size m block task → Holds size (taken_over m.0 w, m.1) block task
-    holds None k = k
-    holds (Some u) k = k
-
-    same : Sound size (taken_over m.0 w, m.1) number task block
-    same = (h.0, h.1, h.2, h.3, holds task h.4)

@@ -1,5 +1,5 @@
 -- A seat for one worker more keeps the rule.
-use Rattle.std.proofs.Common.{◌≡◌, ◌≢◌, ◌⊎◌, ℕ, ◌+◌, ◌<◌, List, [], ◌∷◌, ◌++◌, length, set, Some, None, true, refl, sym, ap, ◌∙◌, subst, inl, inr, ⊎_elim, arith, Option}
+use Rattle.std.proofs.Common.{◌≡◌, ◌≢◌, ◌⊎◌, ℕ, ◌+◌, ◌<◌, List, [], ◌∷◌, ◌++◌, length, set, Some, None, true, refl, sym, ap, ◌∙◌, subst, inl, inr, ⊎_elim, arith}
 use mathlib.Core.Option.{some, some-ne-none}
 use mathlib.Core.Logic.{dite}
 use native.Mathlib.Decide.{ℕ_discrete}
@@ -10,8 +10,6 @@ use Rattle.steal_table.specs.declared.view.Size.{Size}
 use Rattle.steal_table.specs.declared.view.Entry.{Entry}
 use Rattle.steal_table.specs.declared.view.View.{View}
 use Rattle.steal_table.specs.Rule.{Table, held, Says, Live, HasEntry, CameBack, entry, Rule, one_more, next_worker}
-use Rattle.steal_table.specs.Steps.{Seated}
-use Rattle.steal_table.specs.Passes.{Holds, Sound}
 use Rattle.steal_table.proofs.Tables.{below_length, back_same}
 use Rattle.steal_table.proofs.Claims.{is_caller, at_caller}
 use Rattle.steal_table.proofs.Finishes.{at_push}
@@ -144,13 +142,3 @@ module _ (size : Size) (s : Table) (r : Rule size s) (room : r.caller.made < siz
 pub splits : (size : Size) (id : ℕ) (v : View) → v.live ≡ true → v.number ≡ size.workers → v.made < size.workers → Splits (Rule size) id v (one_more v) (next_worker v)
 splits size id v live number room s r at = let c = is_caller size s r id v (at, live) number in let made = ap (λ (z : View). z.made) c.1 in
     subst (λ (p : ℕ × View). Rule size record { words = s.words; homes = s.homes; views = set s.views p.0 (one_more p.1) ++ next_worker p.1 ∷ [] }) (λ i. (sym c.0 i, sym c.1 i)) (splits_caller size s r (omega arith))
-
-pub split_sound : (size : Size) (m m' : Seated) (number : ℕ) (task : Option ℕ) (block : List ℕ) → Sound size m number task block → m' ≡ (one_more m.0, m.1) → Sound size m' number task block
-split_sound size m m' number task block h is = subst (λ (z : Seated). Sound size z number task block) (sym is) same
-  where
-    holds : (task : Option ℕ) → Holds size m block task → Holds size (one_more m.0, m.1) block task
-    holds None k = k
-    holds (Some u) k = k
-
-    same : Sound size (one_more m.0, m.1) number task block
-    same = (h.0, h.1, h.2, h.3, holds task h.4)

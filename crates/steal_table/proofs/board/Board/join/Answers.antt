@@ -1,12 +1,12 @@
-use Rattle.std.proofs.Common.{arith, sym, ap, subst, ◌∙◌, ◌≢◌}
+use Rattle.std.proofs.Common.{arith, refl, sym, ap, subst, ◌∙◌, ◌≢◌}
 use Rattle.steal_table.specs.declared.view.Entry.{Entry}
 use Rattle.steal_table.specs.declared.view.Size.{Size}
-use Rattle.steal_table.specs.Rule.{HasEntry}
+use Rattle.steal_table.specs.Rule.{HasEntry, taken_over}
 use Rattle.steal_table.specs.Steps.{Seated, OnePerTask}
 use Rattle.steal_table.specs.Passes.{BoardId, PassState}
 use Rattle.steal_table.proofs.Looks.{looks_first}
-use Rattle.steal_table.proofs.Joins.{joins, joined_sound, apart_in_one}
-use Rattle.steal_table.proofs.Holdings.{nothing_out}
+use Rattle.steal_table.proofs.Joins.{joins, apart_in_one}
+use Rattle.steal_table.proofs.Holdings.{nothing_out, still_sound}
 use Rattle.steal_table.proofs.board.Board.join.Goals as goal
 
 -- src/board.rt:141:9
@@ -35,7 +35,7 @@ load-requires c =
 -- src/board.rt:125:5
 pub invariant_of-own : goal.invariant_of-own
 invariant_of-own c = let own = c.own.inside in
-    joined_sound own.of own.seat.me c.load.new.seat.me own.number own.task own.block.items c.pass.inside.seat.me.0 c.own.invariant (c.load.ensures.2.0 ∙ c.join_seat.ensures.2)
+    still_sound own.of own.seat.me c.load.new.seat.me (taken_over own.seat.me.0 c.pass.inside.seat.me.0) own.number own.task own.block.items c.own.invariant refl refl refl refl (c.load.ensures.2.0 ∙ c.join_seat.ensures.2)
 
 -- src/board.rt:125:5
 pub returns-clause-apart : goal.returns-clause-apart

@@ -1,7 +1,9 @@
-use Rattle.std.proofs.Common.{arith, sym, ap, ◌∙◌}
+use Rattle.std.proofs.Common.{arith, refl, sym, ap, ◌∙◌}
 use Rattle.steal_table.specs.declared.view.Size.{Size}
+use Rattle.steal_table.specs.Rule.{one_more}
 use Rattle.steal_table.specs.Passes.{BoardId, PassState}
-use Rattle.steal_table.proofs.Splits.{splits, split_sound}
+use Rattle.steal_table.proofs.Splits.{splits}
+use Rattle.steal_table.proofs.Holdings.{still_sound}
 use Rattle.steal_table.proofs.board.Board.split.Goals as goal
 
 pub split_seat-seat-requires : goal.split_seat-seat-requires
@@ -13,4 +15,4 @@ split_seat-seat-requires c =
     (ap (λ (z : BoardId). z.table) b, (let w = i.1 in omega arith), splits _ c.own.inside.seat.id c.own.inside.seat.me.0 c.own.invariant.0 number (omega arith))
 
 pub invariant_of-own : goal.invariant_of-own
-invariant_of-own c = let own = c.own.inside in split_sound own.of own.seat.me c.split_seat-seat.new.seat.me own.number own.task own.block.items c.own.invariant c.split_seat-seat.ensures.2
+invariant_of-own c = let own = c.own.inside in still_sound own.of own.seat.me c.split_seat-seat.new.seat.me (one_more own.seat.me.0) own.number own.task own.block.items c.own.invariant refl refl refl refl c.split_seat-seat.ensures.2
