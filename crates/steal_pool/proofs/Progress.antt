@@ -3,7 +3,7 @@ use Rattle.std.proofs.Common.{◌≡◌, ◌≢◌, ◌<◌, ◌≤◌, ◌+◌,
 use Rattle.std.proofs.Math.Nat.{div-mul-le_self, div-le_of_le-mul, mul-le-mul_right, mul_comm}
 use Rattle.std.proofs.lemmas.List.{map-set, map-append, take_more, take_more_set, length-map, length-set, drop-take, take-take, take-append-drop, take_all, get_or-set_other}
 use Rattle.std.proofs.lemmas.Nat.{le-div}
-use Rattle.std.proofs.lemmas.List.Elements.{All-set, All-take, All-drop}
+use Rattle.std.proofs.lemmas.List.Elements.{All-append, All-set, All-take, All-drop}
 use Rattle.std.proofs.Math.Seq.{take-append_seam, drop-append_seam}
 use Rattle.steal_pool.specs.declared.post.Post.{Post}
 use Rattle.steal_pool.specs.Shares.{share_start, IsShare, EachFrom}
@@ -74,5 +74,9 @@ module _ {S : Type 0} (P : S → Type 0) (posts first others : List (Post S)) (i
   pub serve_front : AllServe P first
   serve_front = subst (AllServe P) (take-append_seam first others) (All-take (λ p. P (scratch_of p)) (length first) (first ++ others) whole)
 
-  pub serve_back : AllServe P others
+  serve_back : AllServe P others
   serve_back = subst (AllServe P) (drop-append_seam first others) (All-drop (λ p. P (scratch_of p)) (length first) (first ++ others) whole)
+
+  -- the first ones as a round leaves them, and the others
+  pub serve_again : (now : List (Post S)) → AllServe P now → AllServe P (now ++ others)
+  serve_again now still = All-append (λ p. P (scratch_of p)) now others still serve_back

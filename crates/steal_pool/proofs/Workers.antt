@@ -1,12 +1,13 @@
 -- What a worker keeps when it finishes a task.
-use Rattle.std.proofs.Common.{◌≡◌, ℕ, List, [], ◌∷◌, ◌++◌, length, take, Some, refl, sym, ap, ◌∙◌, subst, ⊎_elim, arith, append-nil, take_all, slice_index_or}
+use Rattle.std.proofs.Common.{◌≡◌, ℕ, List, [], ◌∷◌, ◌++◌, length, take, Option, Some, refl, sym, ap, ◌∙◌, subst, ⊎_elim, arith, append-nil, take_all, slice_index_or}
 use Rattle.std.proofs.lemmas.List.{drop_all}
+use Rattle.std.specs.Prelude.{MatchOption}
 use lib.ListN.{get_elem?}
 use mathlib.Core.Option.{some}
 use Rattle.steal_table.specs.declared.view.Entry.{Entry}
 use Rattle.steal_table.specs.declared.view.View.{View}
-use Rattle.steal_table.specs.Rule.{entry}
-use Rattle.steal_table.specs.Steps.{holding, with_entry, AllBack, HasEntryOf}
+use Rattle.steal_table.specs.Rule.{HasEntry, entry}
+use Rattle.steal_table.specs.Steps.{holding, with_entry, AllBack, NoEntry, HasEntryOf}
 use Rattle.steal_table.specs.declared.view.Size.{Size}
 use Rattle.steal_table.proofs.Tables.{back_same}
 use Rattle.steal_table.specs.Passes.{BoardId, PassState}
@@ -65,3 +66,8 @@ all_back v w g same all = (
 
 pub still_has : (v w : View) (t : ℕ) → Grown v w → HasEntryOf v t → HasEntryOf w t
 still_has v w t g h = (h.0, g.more h.0 h.1, h.2)
+
+-- a look that finds who has done a task finds its entry
+pub done_entry : (v : View) (t by : ℕ) (found : Option ℕ) → MatchOption found (NoEntry v t) (λ i. (e : Entry) × HasEntry v e × (e.task ≡ t) × (e.worker ≡ i)) → found ≡ Some by → HasEntryOf v t
+done_entry v t by found answer is =
+    let e = subst (λ (o : Option ℕ). MatchOption o (NoEntry v t) (λ i. (e : Entry) × HasEntry v e × (e.task ≡ t) × (e.worker ≡ i))) is answer in (e.0, e.1, e.2)

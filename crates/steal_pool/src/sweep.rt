@@ -1,7 +1,7 @@
 //! What the caller does once the workers have returned.
 ghost use Rattle.std.specs.Prelude.{◌≡◌, ◌<◌, ℕ, length};
 ghost use Rattle.steal_table.specs.Opened.{caller_of};
-ghost use Rattle.steal_pool.specs.Worker.{Fits, Ready, Grown, HasPass};
+ghost use Rattle.steal_pool.specs.Worker.{Fits, Ready, HasPass};
 ghost use Rattle.steal_pool.specs.Shares.{EachFrom};
 ghost use Rattle.steal_table.specs.Steps.{AllBack, HasEntryOf};
 ghost use Rattle.steal_pool.specs.Work.{AllServe};
@@ -37,33 +37,7 @@ pub(crate) fn join_all<W: Work>(
     }
 }
 
-// Loads the word of a task, and runs the task if it is left.
-fn sweep_task<W: Work, G: Gate>(
-    board: &Board,
-    work: &W,
-    scratch: &mut W::Scratch,
-    own: &mut Pass,
-    task: u32,
-    gate: &G,
-)
-    requires fits { Fits board.now.size (W.want work.now) (W.wide work.now) }
-    requires ready { Ready board.now (W.want work.now) own.old }
-    requires back { AllBack own.old.view }
-    requires task { task < length (W.want work.now) }
-    requires serves { W.serves work.now scratch.old }
-    ensures ready { Ready board.now (W.want work.now) own.new }
-    ensures number { own.new.view.number ≡ own.old.view.number }
-    ensures more { Grown own.old.view own.new.view }
-    ensures got { HasEntryOf own.new.view task }
-    ensures serves { W.serves work.now scratch.new }
-{
-    match board.look(own, task) {
-        Some(_) => {}
-        None => try_task(board, work, scratch, own, task, gate),
-    }
-}
-
-// Runs what the workers left.
+// Runs what the workers left: loads the word of each task, and runs the task if it is left.
 pub(crate) fn sweep<W: Work, G: Gate>(
     board: &Board,
     work: &W,
@@ -80,6 +54,9 @@ pub(crate) fn sweep<W: Work, G: Gate>(
     ensures serves { W.serves work.now scratch.new }
 {
     for task in 0..work.tasks() {
-        sweep_task(board, work, scratch, own, task, gate);
+        if let Some(_) = board.look(own, task) {
+            continue;
+        }
+        try_task(board, work, scratch, own, task, gate);
     }
 }
