@@ -1,10 +1,9 @@
 //! The lists of one depth, split in rounds.
 ghost use Rattle.std.specs.Prelude.{◌≡◌, ◌+◌, ◌*◌, ◌^◌, ◌++◌, ◌<◌, ◌≤◌, IfOk, length, take};
 ghost use Rattle.std.specs.List.{All, filter};
-ghost use Rattle.ann_defs.specs.declared.limits.TheConstants.{MAX_POINTS, MAX_WORDS};
+ghost use Rattle.ann_defs.specs.declared.limits.TheConstants.{MAX_POINTS};
 ghost use Rattle.pivot_trees.specs.Blocks.{lists_of, AreSplittable};
 ghost use Rattle.pivot_trees.specs.Leaves.{is_long, is_short, parts_from};
-ghost use Rattle.pivot_trees.specs.Tasks.{parts_in};
 
 use crate::parts::keep_parts;
 use crate::splits::Splits;
@@ -35,30 +34,6 @@ fn round_of(lists: &[Vec<u32>], limit: usize) -> (usize, u32)
         width = wider;
     }
     (lists.len(), width as u32)
-}
-
-// Splits lists in one round.
-fn split_round<R: Threads + Sync, P: Rounds, G: Gate + Sync>(
-    rt: &R,
-    alloc: Global,
-    pool: &mut P,
-    work: &Splits,
-    leaf: u32,
-    posts: &mut [Post<()>],
-    gate: &G,
-    long: &mut Vec<Vec<u32>>,
-    leaves: &mut Vec<Vec<u32>>,
-) -> Result<(), NoMemory>
-    requires some { 0 < length work.now.lists.now }
-    requires words { length work.now.lists.now * work.now.width ≤ MAX_WORDS }
-    requires posts { length posts.old ≡ P.count pool.old }
-    ensures long { IfOk result (λ _. lists_of long.new.items ≡ lists_of long.old.items ++ filter (is_long leaf) (parts_in work.now)) }
-    ensures leaves { IfOk result (λ _. lists_of leaves.new.items ≡ lists_of leaves.old.items ++ filter (is_short leaf) (parts_in work.now)) }
-    ensures posts { length posts.new ≡ length posts.old }
-    ensures workers { P.count pool.new ≡ P.count pool.old }
-{
-    let blocks = pool.run_round(rt, alloc, work, posts, gate)?;
-    keep_parts(alloc, work, &blocks, leaf, long, leaves)
 }
 
 /// Splits the long lists of one depth, which are numbered from `number` on. Adds their parts to the long ones, or to the
@@ -99,7 +74,8 @@ pub(crate) fn split_lists<'a, R: Threads + Sync, P: Rounds, G: Gate + Sync>(
             lists: &lists[from..from + count],
             width,
         };
-        split_round(rt, alloc, pool, &work, leaf, posts, gate, long, leaves)?;
+        let blocks = pool.run_round(rt, alloc, &work, posts, gate)?;
+        keep_parts(alloc, &work, &blocks, leaf, long, leaves)?;
         from += count;
     }
     Ok(())

@@ -5,6 +5,7 @@ ghost use Rattle.pivot_trees.specs.Leaves.{leaves_of, leaf_with};
 
 use crate::leaves::grow_leaves;
 use crate::places::place_ids;
+use crate::splitter::Splitter;
 use ann_shelf::{Gate, NoMemory};
 use bin_files::Points;
 use std::alloc::Global;
@@ -53,17 +54,13 @@ impl Tree {
         ensures workers { P.count pool.new ≡ P.count pool.old }
     {
         let mut posts = posts_of(alloc, pool.workers(), || Ok(()))?;
-        let leaves = grow_leaves(
-            rt,
-            alloc,
+        let root = Splitter {
             points,
-            tree,
             seed,
-            leaf,
-            pool,
-            posts.as_mut_slice(),
-            gate,
-        )?;
+            tree,
+            depth: 0,
+        };
+        let leaves = grow_leaves(rt, alloc, root, leaf, pool, posts.as_mut_slice(), gate)?;
         let count = points.count();
         let leaf_at = place_ids(alloc, count, leaves.as_slice())?;
         Ok(Tree {

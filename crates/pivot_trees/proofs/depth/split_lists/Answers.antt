@@ -4,7 +4,7 @@ use Rattle.std.proofs.lemmas.List.{take-take, length-take-le}
 use Rattle.std.proofs.lemmas.List.Elements.{All-weaker}
 use Rattle.pivot_trees.specs.Blocks.{lists_of}
 use Rattle.pivot_trees.specs.Leaves.{is_long, is_short}
-use Rattle.pivot_trees.proofs.SplitBlocks.{some_of, some_splittable, kept_round}
+use Rattle.pivot_trees.proofs.SplitBlocks.{some_of, some_splittable, many_blocks, kept_round}
 use Rattle.pivot_trees.proofs.depth.split_lists.Goals as goal
 
 -- the lists of a round
@@ -59,6 +59,17 @@ invariant_of-work g c =
       few = let all = c.requires.few in omega (arith, many, within, all);
     }
 
+pub run_round-requires-clause-small : goal.run_round-requires-clause-small
+run_round-requires-clause-small g c κs within =
+    let s = c.args.splitter.now in
+    let lists = c.args.lists.now in
+    let from = c.loop-from.from in
+    let count = c.round_of-count.result.0 in
+    let width = c.round_of-count.result.1 in
+    let words : count * width ≤ 134217728 = omega (arith, c.round_of-count.ensures.words, c.count.ensures.bound) in
+    subst (λ k. k * width ≤ 134217728)
+    (sym (many_blocks s.points.now.vectors s.seed s.tree s.depth width (c.args.number + from) (take (from + count - from) (drop from lists)) ∙ round_count lists from count c.round_of-count.ensures.within)) words
+
 pub loop-from-preserved : goal.loop-from-preserved
 loop-from-preserved g c =
     let s = c.args.splitter.now in
@@ -71,8 +82,8 @@ loop-from-preserved g c =
     let same = round_len lists from count few in
     record {
       within = within;
-      long = kept_round points s.seed s.tree s.depth c.args.number lists (is_long c.args.leaf) from count (from + count - from) (lists_of c.args.long.now.items) (lists_of c.loop-from.long.items) (lists_of c.split_round.new.long.items) same within c.loop-from.invariant.long c.in_ok-split_round.ensures.long;
-      leaves = kept_round points s.seed s.tree s.depth c.args.number lists (is_short c.args.leaf) from count (from + count - from) (lists_of c.args.leaves.now.items) (lists_of c.loop-from.leaves.items) (lists_of c.split_round.new.leaves.items) same within c.loop-from.invariant.leaves c.in_ok-split_round.ensures.leaves;
-      posts = c.in_ok-split_round.ensures.posts ∙ c.loop-from.invariant.posts;
-      workers = c.in_ok-split_round.ensures.workers ∙ c.loop-from.invariant.workers;
+      long = kept_round points s.seed s.tree s.depth c.args.number lists (is_long c.args.leaf) from count (from + count - from) (lists_of c.args.long.now.items) (lists_of c.loop-from.long.items) (lists_of c.keep_parts.new.long.items) same within c.loop-from.invariant.long c.in_ok-keep_parts.ensures.long;
+      leaves = kept_round points s.seed s.tree s.depth c.args.number lists (is_short c.args.leaf) from count (from + count - from) (lists_of c.args.leaves.now.items) (lists_of c.loop-from.leaves.items) (lists_of c.keep_parts.new.leaves.items) same within c.loop-from.invariant.leaves c.in_ok-keep_parts.ensures.leaves;
+      posts = c.run_round.auto.posts ∙ c.loop-from.invariant.posts;
+      workers = c.in_ok-blocks.ensures.workers ∙ c.loop-from.invariant.workers;
     }

@@ -41,33 +41,33 @@ module _ (points : List (List ℕ)) (seed tree leaf d : ℕ) (two : 2 ≤ leaf) 
 
 pub split_lists-requires-clause-lists : goal.split_lists-requires-clause-lists
 split_lists-requires-clause-lists g c κs within =
-    subst (λ (vs : List (Vec ℕ Global)). AreSplittable (length c.args.points.now.vectors) (lists_of vs)) (sym c.as_slice.ensures.value) (can_split c.args.points.now.vectors c.args.seed c.args.tree c.args.leaf c.depths.depth c.requires.leaf c.depths.lists.items c.depths.invariant.long)
+    subst (λ (vs : List (Vec ℕ Global)). AreSplittable (length c.args.root.points.now.vectors) (lists_of vs)) (sym c.as_slice.ensures.value) (can_split c.args.root.points.now.vectors c.args.root.seed c.args.root.tree c.args.leaf c.depths.depth c.requires.leaf c.depths.lists.items c.depths.invariant.long)
 
 pub split_lists-requires-clause-short : goal.split_lists-requires-clause-short
 split_lists-requires-clause-short g c κs within =
-    subst (λ (vs : List (Vec ℕ Global)). All (λ ids. length ids ≤ length c.args.points.now.vectors) (lists_of vs)) (sym c.as_slice.ensures.value) (all_short c.args.points.now.vectors c.args.seed c.args.tree c.args.leaf c.depths.depth c.requires.leaf c.depths.lists.items c.depths.invariant.long)
+    subst (λ (vs : List (Vec ℕ Global)). All (λ ids. length ids ≤ length c.args.root.points.now.vectors) (lists_of vs)) (sym c.as_slice.ensures.value) (all_short c.args.root.points.now.vectors c.args.root.seed c.args.root.tree c.args.leaf c.depths.depth c.requires.leaf c.depths.lists.items c.depths.invariant.long)
 
 pub split_lists-requires-clause-few : goal.split_lists-requires-clause-few
 split_lists-requires-clause-few g c κs within =
-    let few = few_lists c.args.points.now.vectors c.args.seed c.args.tree c.args.leaf c.depths.depth c.requires.leaf c.depths.lists.items c.depths.invariant.long in
+    let few = few_lists c.args.root.points.now.vectors c.args.root.seed c.args.root.tree c.args.leaf c.depths.depth c.requires.leaf c.depths.lists.items c.depths.invariant.long in
     let same = ap (λ (vs : List (Vec ℕ Global)). length vs) c.as_slice.ensures.value in
     omega (arith, few, same, c.count.ensures.value, c.count.ensures.bound)
 
 pub split_lists-requires-clause-number : goal.split_lists-requires-clause-number
 split_lists-requires-clause-number g c κs within =
-    let fits = small_numbers c.args.points.now.vectors c.args.seed c.args.tree c.args.leaf c.depths.depth c.requires.leaf c.depths.lists.items c.depths.invariant.long c.depths.number c.depths.invariant.first c.depths.invariant.within (omega (arith, c.count.ensures.value, c.count.ensures.bound)) in
+    let fits = small_numbers c.args.root.points.now.vectors c.args.root.seed c.args.root.tree c.args.leaf c.depths.depth c.requires.leaf c.depths.lists.items c.depths.invariant.long c.depths.number c.depths.invariant.first c.depths.invariant.within (omega (arith, c.count.ensures.value, c.count.ensures.bound)) in
     let same = ap (λ (vs : List (Vec ℕ Global)). length vs) c.as_slice.ensures.value in
     omega (arith, fits, same)
 
 pub overflow_add-number : goal.overflow_add-number
 overflow_add-number g c =
-    let fits = small_numbers c.args.points.now.vectors c.args.seed c.args.tree c.args.leaf c.depths.depth c.requires.leaf c.depths.lists.items c.depths.invariant.long c.depths.number c.depths.invariant.first c.depths.invariant.within (omega (arith, c.count.ensures.value, c.count.ensures.bound)) in
+    let fits = small_numbers c.args.root.points.now.vectors c.args.root.seed c.args.root.tree c.args.leaf c.depths.depth c.requires.leaf c.depths.lists.items c.depths.invariant.long c.depths.number c.depths.invariant.first c.depths.invariant.within (omega (arith, c.count.ensures.value, c.count.ensures.bound)) in
     let len : c.len.result ≡ length c.depths.lists.items = omega (arith, c.len.ensures) in
     omega (arith, fits, len)
 
 pub depths-preserved : goal.depths-preserved
 depths-preserved g c =
-    let points = c.args.points.now.vectors in
+    let points = c.args.root.points.now.vectors in
     let d = c.depths.depth in
     let lists = c.depths.lists.items in
     let len : c.len.result ≡ length lists = omega (arith, c.len.ensures) in
@@ -75,14 +75,14 @@ depths-preserved g c =
     let more : 0 < vec_len c.depths.lists = some_left (vec_len c.depths.lists) (sym c.is_empty.ensures ∙ c.depths-test.true) in
     let some : 0 < length lists = omega (arith, more) in
     record {
-      within = deeper points c.args.seed c.args.tree c.args.leaf d c.requires.leaf lists c.depths.invariant.long some;
-      first = sym (first_next points c.args.seed c.args.tree c.args.leaf d c.depths.number (lists_of lists) c.depths.invariant.first c.depths.invariant.long ∙ ap (λ k. c.depths.number + k) (many_lists lists ∙ sym len));
+      within = deeper points c.args.root.seed c.args.root.tree c.args.leaf d c.requires.leaf lists c.depths.invariant.long some;
+      first = sym (first_next points c.args.root.seed c.args.root.tree c.args.leaf d c.depths.number (lists_of lists) c.depths.invariant.first c.depths.invariant.long ∙ ap (λ k. c.depths.number + k) (many_lists lists ∙ sym len));
       long = c.in_ok-split_lists.ensures.long
-          ∙ (λ i. lists_of (c.new-parts.ensures.items i) ++ filter (is_long c.args.leaf) (parts_from points c.args.seed c.args.tree d c.depths.number (read i)))
-          ∙ sym (long_next points c.args.seed c.args.tree c.args.leaf d c.depths.number (lists_of lists) c.depths.invariant.first c.depths.invariant.long);
+          ∙ (λ i. lists_of (c.new-parts.ensures.items i) ++ filter (is_long c.args.leaf) (parts_from points c.args.root.seed c.args.root.tree d c.depths.number (read i)))
+          ∙ sym (long_next points c.args.root.seed c.args.root.tree c.args.leaf d c.depths.number (lists_of lists) c.depths.invariant.first c.depths.invariant.long);
       leaves = c.in_ok-split_lists.ensures.leaves
-          ∙ (λ i. c.depths.invariant.leaves i ++ filter (is_short c.args.leaf) (parts_from points c.args.seed c.args.tree d c.depths.number (read i)))
-          ∙ sym (leaves_next points c.args.seed c.args.tree c.args.leaf d c.depths.number (lists_of lists) c.depths.invariant.first c.depths.invariant.long);
+          ∙ (λ i. c.depths.invariant.leaves i ++ filter (is_short c.args.leaf) (parts_from points c.args.root.seed c.args.root.tree d c.depths.number (read i)))
+          ∙ sym (leaves_next points c.args.root.seed c.args.root.tree c.args.leaf d c.depths.number (lists_of lists) c.depths.invariant.first c.depths.invariant.long);
       posts = c.in_ok-split_lists.ensures.posts ∙ c.depths.invariant.posts;
       workers = c.in_ok-split_lists.ensures.workers ∙ c.depths.invariant.workers;
     }
@@ -91,4 +91,4 @@ pub returns-clause-leaves : goal.returns-clause-leaves
 returns-clause-leaves g c =
     let zero_len : vec_len c.depths.lists ≡ 0 = eqb-true (vec_len c.depths.lists) 0 (sym c.is_empty.ensures ∙ c.depths-test.false) in
     let none : length c.depths.lists.items ≡ 0 = omega (arith, zero_len) in
-    all_done c.args.points.now.vectors c.args.seed c.args.tree c.args.leaf c.depths.depth c.requires.leaf c.depths.lists.items c.depths.invariant.long (lists_of c.depths.leaves.items) none c.depths.invariant.within c.depths.invariant.leaves
+    all_done c.args.root.points.now.vectors c.args.root.seed c.args.root.tree c.args.leaf c.depths.depth c.requires.leaf c.depths.lists.items c.depths.invariant.long (lists_of c.depths.leaves.items) none c.depths.invariant.within c.depths.invariant.leaves
