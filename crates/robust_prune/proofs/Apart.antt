@@ -71,6 +71,9 @@ module _ (points : List (List ℕ)) (num den p : ℕ) where
   pruned_apart set r =
       kept_is_apart r (ordered near_cmp (all_near points (point points p) set)) (Rises-fold_put near_cmp near_order [] (all_near points (point points p) set) tt) (listed_right points p set num den r)
 
+  pub row_apart : (set : List ℕ) (r : ℕ) (row : List ℕ) → row ≡ pruned_row points p set num den r → are_apart points num den p row ≡ true
+  row_apart set r row is = ap (are_apart points num den p) is ∙ pruned_apart set r
+
   -- what is apart rises, and each leaves the later ones beside it
   pub apart_rises : (xs : List Near) → AreRight xs → are_apart points num den p (ids_of xs) ≡ true → Rises near_cmp xs
   apart_rises [] right h = tt
