@@ -1,12 +1,11 @@
 //! The candidates of a point.
-ghost use Rattle.std.specs.Prelude.{◌≡◌, ◌+◌, ◌<◌, ◌≤◌, ◌++◌, length, take, nat_eq};
+ghost use Rattle.std.specs.Prelude.{◌≡◌, ◌<◌, ◌≤◌, ◌++◌, length, nat_eq};
 ghost use Rattle.std.specs.List.{All, IsDistinct};
 ghost use Rattle.std.specs.Borrow.{sem};
 ghost use Rattle.ann_defs.specs.Distance.{point};
-ghost use Rattle.ann_defs.specs.Nearness.{near_of, all_near, ids_of};
-ghost use Rattle.beam_search.specs.Lending.{LendsRoom};
-ghost use Rattle.near_lists.specs.Gathered.{gathered, IsGathered};
-ghost use Rattle.near_lists.specs.Marks.{AreUpTo};
+ghost use Rattle.ann_defs.specs.Nearness.{near_of, ids_of};
+ghost use Rattle.beam_search.specs.Lending.{LendsRoom, CanGather, listed};
+ghost use Rattle.near_lists.specs.Gathered.{IsGathered};
 
 use crate::scratch::Scratch;
 use ann_defs::{MAX_DEGREE, Near};
@@ -34,12 +33,7 @@ pub fn candidates<'s>(
     ensures* stays { sem 𝓛 (LendsRoom scratch.entry result) }
     ensures gathered { IsGathered points.now.vectors p (ids_of scratch.old.last.visited ++ extra.now) result.now }
 {
-    let measured = &scratch.visited[..scratch.visited_len];
-    let room = &mut scratch.room;
-    let marks = &mut scratch.marks;
-    let (len, stamp) = gather_anew(points, p, measured, extra, room, marks, scratch.last_stamp);
-    scratch.last_stamp = stamp;
-    scratch.room.slice_mut(..len)
+    lent_room(scratch, false, points, p, extra)
 }
 
 /// The ids that the last search found and the `extra` ones, without `p`, each once, with their squared distances to
@@ -64,35 +58,36 @@ pub fn found_candidates<'s>(
     ensures* stays { sem 𝓛 (LendsRoom scratch.entry result) }
     ensures gathered { IsGathered points.now.vectors p (ids_of scratch.old.last.found ++ extra.now) result.now }
 {
-    let measured = &scratch.found[..scratch.found_len];
-    let room = &mut scratch.room;
-    let marks = &mut scratch.marks;
-    let (len, stamp) = gather_anew(points, p, measured, extra, room, marks, scratch.last_stamp);
+    lent_room(scratch, true, points, p, extra)
+}
+
+// What the last search found, or else what it visited, and the `extra` ids, gathered under a stamp later than the last.
+fn lent_room<'s>(
+    scratch: &'s mut Scratch,
+    of_found: bool,
+    points: &Points,
+    p: u32,
+    extra: &[u32],
+) -> &'s mut [Near]
+    requires p { p < length points.now.vectors }
+    requires last { CanGather points.now.vectors p scratch.old of_found extra.now }
+    requires extra { All (λ u. u < length points.now.vectors) extra.now }
+    ensures* stays { sem 𝓛 (LendsRoom scratch.entry result) }
+    ensures gathered { IsGathered points.now.vectors p (ids_of (listed of_found scratch.old.last) ++ extra.now) result.now }
+{
+    let found = &scratch.found[..scratch.found_len];
+    let visited = &scratch.visited[..scratch.visited_len];
+    let measured = one_of(of_found, found, visited);
+    let marks = scratch.marks.as_mut_slice();
+    let stamp = next_stamp(marks, scratch.last_stamp);
+    let len = gather(points, p, measured, extra, &mut scratch.room, marks, stamp);
     scratch.last_stamp = stamp;
     scratch.room.slice_mut(..len)
 }
 
-// Gathers the measured and the extra ids under a stamp later than the last. Returns how many they are, and the stamp.
-fn gather_anew(
-    points: &Points,
-    p: u32,
-    measured: &[Near],
-    extra: &[u32],
-    room: &mut [Near],
-    marks: &mut [u32],
-    last: u32,
-) -> (usize, u32)
-    requires p { p < length points.now.vectors }
-    requires in_range { All (λ x. x.id < length points.now.vectors) measured.now }
-    requires extra { All (λ u. u < length points.now.vectors) extra.now }
-    requires room { length measured.now + length extra.now ≤ length room.old }
-    requires marks { length marks.old ≡ length points.now.vectors }
-    requires up_to { AreUpTo last marks.old }
-    ensures list { take result.0 room.new ≡ gathered p (measured.now ++ all_near points.now.vectors (point points.now.vectors p) extra.now) }
-    ensures bound { result.0 ≤ length room.old }
-    ensures marks { AreUpTo result.1 marks.new }
+// What was found, or else what was visited.
+fn one_of<'a>(of_found: bool, found: &'a [Near], visited: &'a [Near]) -> &'a [Near]
+    ensures { result.now ≡ listed of_found (record { found = found.now; visited = visited.now }) }
 {
-    let stamp = next_stamp(marks, last);
-    let len = gather(points, p, measured, extra, room, marks, stamp);
-    (len, stamp)
+    if of_found { found } else { visited }
 }
