@@ -1,5 +1,5 @@
 -- What a whole search finds and visits.
-use Rattle.std.proofs.Common.{◌≡◌, ℕ, zero, suc, ◌<◌, ◌≤◌, Bool, true, Some, None, List, ◌++◌, length, min, arith}
+use Rattle.std.proofs.Common.{◌≡◌, ℕ, zero, suc, ◌<◌, ◌≤◌, Bool, true, Some, None, List, ◌++◌, length, min, sym, subst, arith}
 use Rattle.std.specs.Prelude.{nat_eq}
 use Rattle.std.specs.List.{All, IsDistinct}
 use Rattle.std.specs.Option.{option_map_or}
@@ -17,6 +17,14 @@ use Rattle.beam_search.specs.Measured.{AreMeasured}
 least_short : (set : List Near) (k : ℕ) → length (least set k) ≤ k
 least_short set k = let e : length (least set k) ≡ min k (length (ordered near_cmp set)) = length-take k (ordered near_cmp set) in omega (arith, e)
 
+-- what holds of the end of a whole search
+pub record IsSearched (points : List (List ℕ)) (query : List ℕ) (beam : ℕ) (held : ℕ → Bool) (last : Walk) : Type 0 where
+  pub visited : AreMeasured points query held last.visited
+  pub few : length last.visited ≤ length points
+  pub found : AreMeasured points query held last.found
+  pub rises : Rises near_cmp last.found
+  pub short : length last.found ≤ beam
+
 module _ (points : List (List ℕ)) (row : ℕ → List ℕ) (query : List ℕ) (beam : ℕ) where
   short_walk : (k : ℕ) (w : Walk) → length w.found ≤ beam → length (walk points row query beam k w).found ≤ beam
   short_walk zero w h = h
@@ -26,7 +34,7 @@ module _ (points : List (List ℕ)) (row : ℕ → List ℕ) (query : List ℕ) 
         | Some p ↦ short_walk k (visit points row query beam w p) (least_short (w.found ++ all_near points query (row p.id)) beam)
       ]
 
-  pub found_short : (starts : List ℕ) → length (search_of points row query beam starts).found ≤ beam
+  found_short : (starts : List ℕ) → length (search_of points row query beam starts).found ≤ beam
   found_short starts = short_walk (length points) (start_of points row query beam starts) (least_short (all_near points query starts) beam)
 
   module _ (held : ℕ → Bool) (g : IsGraph (length points) held row) (starts : List ℕ) (all : All (λ u. held u ≡ true) starts) where
@@ -44,14 +52,17 @@ module _ (points : List (List ℕ)) (row : ℕ → List ℕ) (query : List ℕ) 
       distinct = distinct;
     }
 
-    pub visited_measured : AreMeasured points query held whole.visited
+    visited_measured : AreMeasured points query held whole.visited
     visited_measured = measured whole.visited sound.visited_right sound.distinct
 
-    pub visited_few : length whole.visited ≤ length points
+    visited_few : length whole.visited ≤ length points
     visited_few = few_visited points row query beam held g whole sound
 
-    pub found_rises : Rises near_cmp whole.found
+    found_rises : Rises near_cmp whole.found
     found_rises = sound.rises
 
-    pub found_measured : AreMeasured points query held whole.found
+    found_measured : AreMeasured points query held whole.found
     found_measured = measured whole.found sound.found_right (distinct_once (ids_of whole.found) (rising_once points query whole.found sound.rises (λ z h. (sound.found_right z h).1)))
+
+    pub searched : (last : Walk) → last ≡ whole → IsSearched points query beam held last
+    searched last is = subst (IsSearched points query beam held) (sym is) record { visited = visited_measured; few = visited_few; found = found_measured; rises = found_rises; short = found_short starts }
