@@ -4,7 +4,7 @@ use Rattle.clap.specs.declared.builder.Command.{Command}
 use Rattle.clap.specs.Words.{AddsSubcommand, App, app_of, with_subcommand}
 use Rattle.clap.proofs.SimpleLemmas.{plain_fields}
 use Rattle.command_options.specs.declared.verb.Verb.{Verb}
-use Rattle.command_options.specs.declared.verb.Verb.TheVariants as verbs
+use Rattle.command_options.proofs.EachVerb.{each_verb}
 use Rattle.annbuild_clap.specs.Program.{command_app, with_option}
 
 -- a command of which the app is known, and is plain
@@ -19,15 +19,4 @@ first_passes false b h = cc
 -- each command is plain
 pub plain_command : (verb : Verb) → (command_app verb).top.is_plain ≡ true
 unfolding command_app with_option
-plain_command verbs.Build = refl
-plain_command verbs.Query = refl
-plain_command verbs.Check = refl
-plain_command verbs.Make = refl
-plain_command verbs.Trial = refl
-plain_command verbs.Live = refl
-plain_command verbs.Exact = refl
-plain_command verbs.Recall = refl
-plain_command verbs.Forget = refl
-plain_command verbs.Without = refl
-plain_command verbs.Label = refl
-plain_command verbs.Find = refl
+plain_command verb = each_verb (λ v. (command_app v).top.is_plain) refl verb

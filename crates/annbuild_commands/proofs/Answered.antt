@@ -1,5 +1,5 @@
 -- How what words ask for ends.
-use Rattle.std.proofs.Common.{◌≡◌, ◌∙◌, ℕ, true, false, sym, subst, Option, Some, IfSome, IfNone, List}
+use Rattle.std.proofs.Common.{◌≡◌, ◌∙◌, ℕ, false, sym, subst, Option, Some, IfSome, IfNone, List}
 use Rattle.std.specs.Prelude.{◌⊎◌}
 use Rattle.ann_shelf.specs.Faults.{Rose}
 use Rattle.ann_shelf.specs.Shown.{Shown}
@@ -7,19 +7,15 @@ use Rattle.ann_shelf.specs.Written.{Got}
 use Rattle.annbuild_words.specs.Asked.{Command, Meaning, request_of}
 use Rattle.annbuild_words.specs.Asked.Meaning.{Means}
 use Rattle.command_options.specs.Shapes.{is_live}
-use Rattle.command_options.specs.declared.verb.Verb.TheVariants.{Live}
 use Rattle.annbuild_lines.specs.declared.fault.Fault.{Fault}
 use Rattle.annbuild_commands.specs.Ending.{TellsOf, begins_live}
 use Rattle.annbuild_commands.specs.Promises.{IsAnswered, Promises}
-use Rattle.annbuild_commands.proofs.FirstWord.{first_word, live_is}
+use Rattle.annbuild_commands.proofs.FirstWord.{first_word}
 use Rattle.annbuild_commands.proofs.TopClauses.{complete}
 
--- which command it is, by the first word
+-- it is no `live` where the first word isn't
 pub plain_command : (words : List (List ℕ)) (c : Command) → begins_live words ≡ false → request_of words ≡ Means c → is_live c.verb ≡ false
 plain_command words c first is = first_word words c is ∙ first
-
-pub live_command : (words : List (List ℕ)) (c : Command) → begins_live words ≡ true → request_of words ≡ Means c → c.verb ≡ Live
-live_command words c first is = live_is c.verb (first_word words c is ∙ first)
 
 -- the promises of the top call
 pub promised : (asked : Meaning) (old new : Shown) (had got had_told told_then : Got) (ended fault : Option Fault) → fault ≡ ended → IsAnswered asked old new had got ended

@@ -1,5 +1,5 @@
 -- What the first word says of the command.
-use Rattle.std.proofs.Common.{◌≡◌, ◌∙◌, ℕ, Bool, true, false, cond, List, [], ◌∷◌, refl, sym, ap, subst, Option, Some, None}
+use Rattle.std.proofs.Common.{◌≡◌, ◌∙◌, ℕ, Bool, true, false, cond, not, List, [], ◌∷◌, refl, sym, ap, subst, Option, Some, None}
 use Rattle.std.specs.Str.{bytes_eq}
 use Rattle.std.proofs.lemmas.Slice.Eq.{bytes_eq-Decides}
 use Rattle.ann_defs.specs.declared.kinds.Kind.{Kind}
@@ -7,7 +7,8 @@ use Rattle.command_options.specs.Names.{first_named}
 use Rattle.command_options.specs.Shapes.{is_live, is_built}
 use Rattle.command_options.specs.Verbs.{verb_name, verb_in, every_verb}
 use Rattle.command_options.specs.declared.verb.Verb.{Verb}
-use Rattle.command_options.specs.declared.verb.Verb.TheVariants as verbs
+use Rattle.command_options.specs.declared.verb.Verb.TheVariants.{Live}
+use Rattle.command_options.proofs.EachVerb.{each_verb}
 use Rattle.std.specs.Prelude.{◌&&◌}
 use Rattle.command_options.specs.Settings.{settings_of}
 use Rattle.annbuild_words.specs.Rules.{keeps_rules, setting, first_outside}
@@ -28,25 +29,19 @@ is_named name (c ∷ choices) word choice e = elim (bytes_eq word (name c)) as (
   | false ↦ λ is more. is_named name choices word choice more
 ] refl e
 
-other_verb : (verb : Verb) (word : List ℕ) → bytes_eq (verb_name verb) (verb_name verbs.Live) ≡ false → verb_in word ≡ Some verb → false ≡ bytes_eq word (verb_name verbs.Live)
-other_verb verb word apart e =
-    let same : word ≡ verb_name verb = (bytes_eq-Decides word (verb_name verb)).0 (is_named verb_name every_verb word verb e) in
-    sym (ap (λ w. bytes_eq w (verb_name verbs.Live)) same ∙ apart)
+-- two tests of which one passes exactly where the other does
+agree : (a b : Bool) → cond a b (not b) ≡ true → a ≡ b
+agree true true h = refl
+agree true false h = cc
+agree false true h = cc
+agree false false h = refl
 
 -- the word of a command is `live` where the command is
-live_named : (verb : Verb) (word : List ℕ) → verb_in word ≡ Some verb → is_live verb ≡ bytes_eq word (verb_name verbs.Live)
-live_named verbs.Build word e = other_verb verbs.Build word refl e
-live_named verbs.Query word e = other_verb verbs.Query word refl e
-live_named verbs.Check word e = other_verb verbs.Check word refl e
-live_named verbs.Make word e = other_verb verbs.Make word refl e
-live_named verbs.Trial word e = other_verb verbs.Trial word refl e
-live_named verbs.Live word e = sym (is_named verb_name every_verb word verbs.Live e)
-live_named verbs.Exact word e = other_verb verbs.Exact word refl e
-live_named verbs.Recall word e = other_verb verbs.Recall word refl e
-live_named verbs.Forget word e = other_verb verbs.Forget word refl e
-live_named verbs.Without word e = other_verb verbs.Without word refl e
-live_named verbs.Label word e = other_verb verbs.Label word refl e
-live_named verbs.Find word e = other_verb verbs.Find word refl e
+live_named : (verb : Verb) (word : List ℕ) → verb_in word ≡ Some verb → is_live verb ≡ bytes_eq word (verb_name Live)
+live_named verb word e =
+    let is_its_word : Verb → Bool = λ v. bytes_eq (verb_name v) (verb_name Live) in
+    let same : word ≡ verb_name verb = (bytes_eq-Decides word (verb_name verb)).0 (is_named verb_name every_verb word verb e) in
+    agree (is_live verb) (is_its_word verb) (each_verb (λ v. cond (is_live v) (is_its_word v) (not (is_its_word v))) refl verb) ∙ ap (λ w. bytes_eq w (verb_name Live)) (sym same)
 
 -- the command of a meaning
 verb_or : Verb → Meaning → Verb
@@ -78,16 +73,8 @@ first_word [] c e = cc
 first_word (word ∷ words) c e = live_named c.verb word (meaning_verb (verb_in word) (items words) c e)
 
 -- the one command that builds beside callers
-pub live_is : (verb : Verb) → is_live verb ≡ true → verb ≡ verbs.Live
-live_is verbs.Build e = cc
-live_is verbs.Query e = cc
-live_is verbs.Check e = cc
-live_is verbs.Make e = cc
-live_is verbs.Trial e = cc
-live_is verbs.Live e = refl
-live_is verbs.Exact e = cc
-live_is verbs.Recall e = cc
-live_is verbs.Forget e = cc
-live_is verbs.Without e = cc
-live_is verbs.Label e = cc
-live_is verbs.Find e = cc
+pub live_is : (words : List (List ℕ)) (c : Command) → begins_live words ≡ true → request_of words ≡ Means c → c.verb ≡ Live
+live_is [] c first e = cc
+live_is (word ∷ words) c first e =
+    let same : word ≡ verb_name Live = (bytes_eq-Decides word (verb_name Live)).0 first in
+    sym (same_choice Live c.verb (ap verb_in (sym same) ∙ meaning_verb (verb_in word) (items words) c e))

@@ -1,12 +1,12 @@
 -- Words that keep the rules are few: each option at most once, with its value, and the file names.
-use Rattle.std.proofs.Common.{◌≡◌, ℕ, suc, ◌+◌, ◌*◌, ◌<◌, ◌≤◌, ◌==◌, Bool, true, false, cond, not, ◌&&◌, ◌||◌, List, [], ◌∷◌, length, Option, Some, None, refl, sym, arith}
-use Rattle.std.proofs.lemmas.Bool.{false≢true, eqb-true}
+use Rattle.std.proofs.Common.{◌≡◌, ℕ, suc, ◌+◌, ◌*◌, ◌<◌, ◌≤◌, ◌==◌, Bool, true, false, cond, not, leb, ◌&&◌, ◌||◌, List, [], ◌∷◌, length, Option, Some, None, refl, sym, arith}
+use Rattle.std.proofs.lemmas.Bool.{false≢true, eqb-true, leb-true}
 use Rattle.std.specs.List.{list_all, cons_option}
 use Rattle.std.specs.Str.{bytes_eq}
 use Rattle.ann_defs.specs.declared.kinds.Kind.{Kind}
 use Rattle.command_options.specs.declared.form.Form.{Form}
 use Rattle.command_options.specs.declared.verb.Verb.{Verb}
-use Rattle.command_options.specs.declared.verb.Verb.TheVariants as verbs
+use Rattle.command_options.proofs.EachVerb.{each_verb}
 use Rattle.command_options.specs.declared.option_name.OptionName.{OptionName}
 use Rattle.annbuild_words.specs.Asked.{Meaning, Nothing', meaning_by}
 use Rattle.command_options.specs.Forms.{option_form}
@@ -129,18 +129,7 @@ total_few verb kind (o ∷ os) xs h =
     omega (arith, at_most_once (has_option verb kind o) (option_form verb kind o) (values_for (option_name o) xs) parts.0, total_few verb kind os xs parts.1)
 
 pub few_names : (verb : Verb) → length (roles_of verb) ≤ 4
-few_names verbs.Build = omega arith
-few_names verbs.Query = omega arith
-few_names verbs.Check = omega arith
-few_names verbs.Make = omega arith
-few_names verbs.Trial = omega arith
-few_names verbs.Live = omega arith
-few_names verbs.Exact = omega arith
-few_names verbs.Recall = omega arith
-few_names verbs.Forget = omega arith
-few_names verbs.Without = omega arith
-few_names verbs.Label = omega arith
-few_names verbs.Find = omega arith
+few_names verb = leb-true (length (roles_of verb)) 4 (each_verb (λ v. leb (length (roles_of v)) 4) refl verb)
 
 -- the file names are as many as the command has
 pub names_counted : (verb : Verb) (kind : Kind) (xs : List Item) → keeps_rules verb kind xs ≡ true → length (files_of xs) ≡ length (roles_of verb)
