@@ -1,5 +1,5 @@
 -- The index that a build gives, its line, and the words of its rows.
-use Rattle.std.proofs.Common.{◌≡◌, ◌≤◌, ℕ, length, refl, sym, subst, Result, Ok, Err, IfOk, OnOk, Some, None, Bool, true, false, cond, nat_lt}
+use Rattle.std.proofs.Common.{◌≡◌, ℕ, length, refl, sym, subst, Result, Ok, Err, IfOk, OnOk, Some, None, Bool, true, false, cond, nat_lt}
 use Rattle.ann_defs.specs.declared.kinds.Kind.{Kind}
 use Rattle.ann_defs.specs.declared.kinds.Kind.TheVariants.{Vamana, Hnsw, Nnd}
 use Rattle.ann_shelf.specs.declared.slip.Quantity.{Quantity}
@@ -11,9 +11,8 @@ use Rattle.annbuild_lines.specs.declared.fault.Fault.TheVariants.{TooLarge}
 use Rattle.command_shapes.proofs.Ending.{IsOfFiles}
 use Rattle.command_options.specs.declared.settings.Settings.{Settings}
 use Rattle.command_options.specs.declared.verb.Verb.{Verb}
-use Rattle.command_options.specs.Settings.{IsInRange}
+use Rattle.command_options.specs.Settings.{AreForKind, IsInRange}
 use Rattle.command_options.specs.Shapes.{shape_kind}
-use Rattle.command_options.specs.Forms.{greatest_degree}
 use Rattle.index_build.specs.IndexOf.{AreForBuild}
 use Rattle.annbuild_commands.specs.IndexTexts.{file_of, line_of, told_of, kind_at}
 use Rattle.index_build.specs.Limits.{limit_refusal}
@@ -48,33 +47,7 @@ told_is i kind layers edges k l e = λ j. record { kind = sym k j; count = i.cou
 
 -- the settings that commands which build any kind have are those of a build
 pub for_build : (v : Verb) (o : Settings) → shape_kind v o.kind ≡ o.kind → IsInRange v o → AreForBuild o
-for_build v o same r = record {
-  some_worker = r.some_worker;
-  workers = r.workers;
-  some_degree = r.some_degree;
-  degree = r.degree;
-  bound = subst (λ k. o.degree ≤ greatest_degree k) same r.bound;
-  some_beam = r.some_beam;
-  beam = r.beam;
-  some_den = r.some_den;
-  ordered = r.ordered;
-  num = r.num;
-  cap = r.cap;
-  some_pass = r.some_pass;
-  passes = r.passes;
-  some_bit = r.some_bit;
-  bits = r.bits;
-  max_level = r.max_level;
-  some_entry = r.some_entry;
-  list = r.list;
-  some_tree = r.some_tree;
-  trees = r.trees;
-  two_in_a_leaf = r.two_in_a_leaf;
-  leaf = r.leaf;
-  rounds = r.rounds;
-  some_format = r.some_format;
-  format = r.format;
-}
+for_build v o same r = subst (λ k. AreForKind k o) same r.build
 
 -- an index that fits
 pub both_ok : {T : Type 0} (r : Result T Fault) (P : Type 0) (Q R : T → Type 0) → ((x : T) → P → Q x → R x) → OnOk r P → IfOk r Q → IfOk r R

@@ -140,14 +140,13 @@ kept verb kind v option = cond (has_option verb kind option) (v option) (default
 abbrev pub most_k : Verb → ℕ → ℕ
 most_k verb search = cond (is_exact verb) MAX_BEAM search
 
--- settings that the option table allows
-pub record IsInRange (verb : Verb) (s : Settings) : Type 0 where
-  pub kind : kind_code s.kind ≤ cond (is_live verb) 1 3
+-- settings that a build of a kind of index may have
+pub record AreForKind (kind : Kind) (s : Settings) : Type 0 where
   pub some_worker : 1 ≤ s.workers
   pub workers : s.workers ≤ MAX_WORKERS
   pub some_degree : 1 ≤ s.degree
   pub degree : s.degree ≤ MAX_DEGREE
-  pub bound : s.degree ≤ greatest_degree (shape_kind verb s.kind)
+  pub bound : s.degree ≤ greatest_degree kind
   pub some_beam : 1 ≤ s.beam
   pub beam : s.beam ≤ MAX_BEAM
   pub some_den : 1 ≤ s.den
@@ -168,6 +167,11 @@ pub record IsInRange (verb : Verb) (s : Settings) : Type 0 where
   pub rounds : s.rounds ≤ 64
   pub some_format : 1 ≤ s.format
   pub format : s.format ≤ 2
+
+-- settings that the option table allows
+pub record IsInRange (verb : Verb) (s : Settings) : Type 0 where
+  pub kind : kind_code s.kind ≤ cond (is_live verb) 1 3
+  pub build : AreForKind (shape_kind verb s.kind) s
   pub some_point : 1 ≤ s.count
   pub count : s.count ≤ MAX_POINTS
   pub some_column : 1 ≤ s.dim

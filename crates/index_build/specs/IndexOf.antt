@@ -1,9 +1,8 @@
 -- The index that settings ask for. No number of workers and no pool is among what it depends on.
-use Rattle.std.specs.Prelude.{ℕ, ◌+◌, ◌*◌, ◌≤◌, max, List, [], length, replicate, slice_index, IfSome}
+use Rattle.std.specs.Prelude.{◌≡◌, ℕ, ◌+◌, ◌*◌, max, List, [], length, replicate, slice_index}
 use Rattle.std.specs.List.{fold, range_with_len}
 use Rattle.ann_defs.specs.Distance.{PointSet, dim_of}
 use Rattle.ann_defs.specs.BatchInsert.{Build, cap_of, batches_in, graph_after}
-use Rattle.ann_defs.specs.declared.limits.TheConstants.{MAX_BEAM, MAX_DEGREE, MAX_POINTS, MAX_WORKERS}
 use Rattle.ann_defs.specs.declared.kinds.Kind.{Kind}
 use Rattle.ann_defs.specs.declared.kinds.Kind.TheVariants.{Vamana, Hnsw, Nnd}
 use Rattle.graph_rows.specs.Index.{Contents, flat_contents}
@@ -17,37 +16,14 @@ use Rattle.pivot_trees.specs.Leaves.{leaves_of, leaf_with}
 use Rattle.neighbour_lists.specs.ListRound.{with_leaves}
 use Rattle.nn_descent.specs.SearchGraph.{graph_rows}
 use Rattle.nn_descent.specs.NndIndex.{start_of, improved}
+use Rattle.nn_descent.specs.declared.settings.NndSettings.{NndSettings}
 use Rattle.command_options.specs.declared.settings.Settings.{Settings}
-use Rattle.command_options.specs.Forms.{greatest_degree}
+use Rattle.command_options.specs.Settings.{AreForKind}
 use Rattle.index_build.specs.Stamping.{stamp_for}
 
 -- settings that a build may have
-pub record AreForBuild (o : Settings) : Type 0 where
-  pub some_worker : 1 ≤ o.workers
-  pub workers : o.workers ≤ MAX_WORKERS
-  pub some_degree : 1 ≤ o.degree
-  pub degree : o.degree ≤ MAX_DEGREE
-  pub bound : o.degree ≤ greatest_degree o.kind
-  pub some_beam : 1 ≤ o.beam
-  pub beam : o.beam ≤ MAX_BEAM
-  pub some_den : 1 ≤ o.den
-  pub ordered : o.den ≤ o.num
-  pub num : o.num ≤ 1000
-  pub cap : IfSome o.cap (λ cap. (1 ≤ cap) × (cap ≤ MAX_POINTS))
-  pub some_pass : 1 ≤ o.passes
-  pub passes : o.passes ≤ 2
-  pub some_bit : 1 ≤ o.bits
-  pub bits : o.bits ≤ 8
-  pub max_level : o.max_level ≤ 15
-  pub some_entry : 1 ≤ o.list
-  pub list : o.list ≤ 128
-  pub some_tree : 1 ≤ o.trees
-  pub trees : o.trees ≤ 64
-  pub two_in_a_leaf : 2 ≤ o.leaf
-  pub leaf : o.leaf ≤ 1024
-  pub rounds : o.rounds ≤ 64
-  pub some_format : 1 ≤ o.format
-  pub format : o.format ≤ 2
+abbrev pub AreForBuild : Settings → Type 0
+AreForBuild o = AreForKind o.kind o
 
 -- the order of insertion of a Vamana build, and the start of its searches
 abbrev pub vamana_order : List (List ℕ) → Settings → List ℕ
@@ -87,6 +63,19 @@ abbrev pub lists_for : List (List ℕ) → Settings → List (List ℕ)
 lists_for X o =
     let with_tree : List (List ℕ) → ℕ → List (List ℕ) = λ rows t. with_leaves X o.list (leaf_with (leaves_of X o.seed t o.leaf)) rows in
     improved X o.list o.floor o.rounds (fold with_tree (replicate (length X) []) (range_with_len 0 o.trees))
+
+-- the builder of lists has these settings
+pub record AreNndSettings (o : Settings) (s : NndSettings) : Type 0 where
+  pub start : s.start ≡ o.start
+  pub seed : s.seed ≡ o.seed
+  pub degree : s.degree ≡ o.degree
+  pub num : s.alpha.num ≡ o.num
+  pub den : s.alpha.den ≡ o.den
+  pub list : s.list ≡ o.list
+  pub trees : s.trees ≡ o.trees
+  pub leaf : s.leaf ≡ o.leaf
+  pub rounds : s.rounds ≡ o.rounds
+  pub floor : s.floor ≡ o.floor
 
 -- the index of nearest-neighbour lists of a point set: the search graph of the lists
 unfoldable pub nnd_of : List (List ℕ) → Settings → Contents
