@@ -1,11 +1,11 @@
 -- The builders' indexes are those that settings ask for.
-use Rattle.std.proofs.Common.{◌≡◌, ℕ, List, length, refl, sym, ap, subst, Result, IfOk}
+use Rattle.std.proofs.Common.{◌≡◌, ℕ, List, length, refl, sym, ap, subst, Ok, None}
 use Rattle.ann_defs.specs.Distance.{PointSet}
 use Rattle.ann_defs.specs.declared.kinds.Kind.{Kind}
 use Rattle.ann_defs.specs.declared.kinds.Kind.TheVariants.{Vamana, Hnsw, Nnd}
 use Rattle.graph_rows.specs.View.{contents, kind_code}
+use Rattle.graph_rows.specs.WellFormed.{IsWellFormed}
 use Rattle.graph_rows.specs.declared.index.Index.{Index}
-use Rattle.annbuild_lines.specs.declared.fault.Fault.{Fault}
 use Rattle.vamana_build.specs.declared.settings.VamanaSettings.{VamanaSettings}
 use Rattle.vamana_build.specs.Builds.{order_of}
 use Rattle.vamana_build.specs.VamanaIndex.{vamana_index}
@@ -16,7 +16,9 @@ use Rattle.nn_descent.specs.declared.settings.NndSettings.{NndSettings}
 use Rattle.command_options.specs.declared.settings.Settings.{Settings}
 use Rattle.graph_rows.specs.Stamps.{stamped}
 use Rattle.index_build.specs.Stamping.{stamp_for}
-use Rattle.index_build.specs.IndexOf.{vamana_of, vamana_rows, vamana_batches, hnsw_of, nnd_of, hnsw_settings, levels_for, index_by, index_of}
+use Rattle.index_build.specs.Limits.{words_refusal}
+use Rattle.index_build.specs.Built.{IsBuilt}
+use Rattle.index_build.specs.IndexOf.{AreNndSettings, vamana_of, vamana_rows, vamana_batches, hnsw_of, nnd_of, hnsw_settings, levels_for, index_by, index_of, words_by, words_of}
 
 -- the builder's index is the one that a build must give
 pub same_index : (X : List (List ℕ)) (s : VamanaSettings) (o : Settings) → s.order ≡ o.order → s.start ≡ o.start → s.seed ≡ o.seed → s.degree ≡ o.degree → s.beam ≡ o.beam
@@ -25,10 +27,10 @@ unfolding order_of vamana_of vamana_rows vamana_batches
 same_index X s o a b c d e f g h p = λ i. vamana_of X (record o { order = a i; start = b i; seed = c i; degree = d i; beam = e i; num = f i; den = g i; cap = h i; passes = p i })
 
 -- the same of the builder of lists
-pub same_lists : (X : List (List ℕ)) (s : NndSettings) (o : Settings) → s.start ≡ o.start → s.seed ≡ o.seed → s.degree ≡ o.degree → s.alpha.num ≡ o.num → s.alpha.den ≡ o.den
-    → s.list ≡ o.list → s.trees ≡ o.trees → s.leaf ≡ o.leaf → s.rounds ≡ o.rounds → s.floor ≡ o.floor → nnd_index X s ≡ nnd_of X o
+pub same_lists : (X : List (List ℕ)) (s : NndSettings) (o : Settings) → AreNndSettings o s → nnd_index X s ≡ nnd_of X o
 unfolding nnd_of
-same_lists X s o a b c d e f g h i j = λ k. nnd_of X (record o { start = a k; seed = b k; degree = c k; num = d k; den = e k; list = f k; trees = g k; leaf = h k; rounds = i k; floor = j k })
+same_lists X s o e = λ k.
+    nnd_of X (record o { start = e.start k; seed = e.seed k; degree = e.degree k; num = e.num k; den = e.den k; list = e.list k; trees = e.trees k; leaf = e.leaf k; rounds = e.rounds k; floor = e.floor k })
 
 -- the index that settings of a kind ask for, but for its stamp
 pub index_is : (X : PointSet) (o : Settings) (k : Kind) → o.kind ≡ k → index_by k X.vectors o ≡ index_by o.kind X.vectors o
@@ -67,5 +69,7 @@ code_is Hnsw X o = hnsw_code X o
 code_is Nnd X o = nnd_code X o
 
 -- what the builder of a kind gives, where settings ask for that kind: their index but for its stamp
-pub built_is : (r : Result Index Fault) (X : PointSet) (o : Settings) (k : Kind) → o.kind ≡ k → IfOk r (λ i. contents i ≡ index_by k X.vectors o) → IfOk r (λ i. contents i ≡ index_by o.kind X.vectors o)
-built_is r X o k is built = subst (λ j. IfOk r (λ i. contents i ≡ index_by j X.vectors o)) (sym is) built
+pub built_is : (i : Index) (X : PointSet) (o : Settings) (k : Kind) → o.kind ≡ k → words_refusal (words_by k (length X.vectors) o) ≡ None → contents i ≡ index_by k X.vectors o → IsWellFormed (contents i)
+    → IsBuilt (words_of (length X.vectors) o) (index_by o.kind X.vectors o) (Ok i)
+built_is i X o k is fits index well_formed =
+    subst (λ j. IsBuilt (words_by j (length X.vectors) o) (index_by j X.vectors o) (Ok i)) (sym is) (record { fits = fits; index = index; well_formed = well_formed; failed = tt })

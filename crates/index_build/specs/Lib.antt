@@ -1,3 +1,4 @@
 pub mod Stamping
 pub mod IndexOf
 pub mod Limits
+pub mod Built

@@ -1,20 +1,13 @@
 //! The HNSW index of points.
-ghost use Rattle.std.specs.Prelude.{◌≡◌, ◌⊎◌, ◌+◌, ◌<◌, ◌≤◌, Some, None, length, IfOk, IfErr, OnOk};
+ghost use Rattle.std.specs.Prelude.{◌≡◌, ◌+◌, ◌<◌, ◌≤◌, IfOk};
 ghost use Rattle.ann_defs.specs.declared.limits.TheConstants.{MAX_WORDS, MAX_WORKERS};
 ghost use Rattle.graph_rows.specs.View.{contents};
 ghost use Rattle.graph_rows.specs.WellFormed.{IsWellFormed};
 ghost use Rattle.hnsw_build.specs.HnswIndex.{hnsw_index};
 ghost use Rattle.hnsw_build.specs.Layering.{words_in};
-ghost use Rattle.annbuild_lines.specs.declared.fault.Fault.TheVariants.{NoMemory as NoMemoryFault};
-ghost use Rattle.command_options.specs.Forms.{greatest_degree};
-ghost use Rattle.ann_defs.specs.declared.kinds.Kind.TheVariants as kinds;
-ghost use Rattle.index_build.specs.IndexOf.{AreForBuild, hnsw_of, hnsw_settings, hnsw_words};
-ghost use Rattle.index_build.specs.Limits.{words_refusal};
+ghost use Rattle.index_build.specs.IndexOf.{hnsw_settings};
 
-use crate::limits::{check_words, pool_for};
 use ann_shelf::{Gate, NoMemory};
-use annbuild_lines::Fault;
-use bin_files::Points;
 use command_options::Settings;
 use graph_rows::Index;
 use hnsw_build::{Hnsw, HnswPlan, HnswSettings};
@@ -23,7 +16,7 @@ use std::thread::Threads;
 use steal_pool::Rounds;
 
 /// The settings of the builder.
-fn settings_of(options: &Settings) -> HnswSettings
+pub(crate) fn settings_for_hnsw(options: &Settings) -> HnswSettings
     requires { options.now.max_level ≤ 15 }
     ensures { result ≡ hnsw_settings options.now }
 {
@@ -39,7 +32,7 @@ fn settings_of(options: &Settings) -> HnswSettings
 }
 
 /// Builds the index of a plan, batch after batch, on any pool.
-fn index_on<R: Threads + Sync, P: Rounds, G: Gate + Sync>(
+pub(crate) fn layered_index<R: Threads + Sync, P: Rounds, G: Gate + Sync>(
     rt: &R,
     alloc: Global,
     plan: &HnswPlan,
@@ -56,25 +49,4 @@ fn index_on<R: Threads + Sync, P: Rounds, G: Gate + Sync>(
         let _more = builder.step(rt, alloc, pool, gate)?;
     }
     Ok(builder.into_index())
-}
-
-/// The HNSW index of points, built on the pool that settings ask for, if its rows take no more words than may be.
-pub(crate) fn layered_index<R: Threads + Sync, G: Gate + Sync>(
-    rt: &R,
-    alloc: Global,
-    points: &Points,
-    options: &Settings,
-    gate: &G,
-) -> Result<Index, Fault>
-    requires range { AreForBuild options.now }
-    requires degree { options.now.degree ≤ greatest_degree kinds.Hnsw }
-    ensures fits { OnOk result (words_refusal (hnsw_words (length points.now.vectors) options.now) ≡ None) }
-    ensures index { IfOk result (λ i. contents i ≡ hnsw_of points.now.vectors options.now) }
-    ensures well_formed { IfOk result (λ i. IsWellFormed (contents i)) }
-    ensures failed { IfErr result (λ fault. (words_refusal (hnsw_words (length points.now.vectors) options.now) ≡ Some fault) ⊎ (fault ≡ NoMemoryFault)) }
-{
-    let plan = HnswPlan::make(alloc, points, settings_of(options))?;
-    check_words(plan.words())?;
-    let mut pool = pool_for(options, points.count());
-    Ok(index_on(rt, alloc, &plan, &mut pool, gate)?)
 }

@@ -22,6 +22,15 @@ fn check_limit(name: Quantity, value: u64, limit: u64) -> Result<(), Fault>
     Ok(())
 }
 
+/// Refuses so many times a number over their limit.
+fn check_product(name: Quantity, times: u32, number: u32, limit: u64) -> Result<(), Fault>
+    ensures few { OnOk result (times * number ≤ limit) }
+    ensures ok { OnOk result (limit_refusal name (times * number) limit ≡ None) }
+    ensures err { IfErr result (λ fault. limit_refusal name (times * number) limit ≡ Some fault) }
+{
+    check_limit(name, u64::from(times) * u64::from(number), limit)
+}
+
 /// Refuses more words than the rows of an index may take.
 pub fn check_words(words: u64) -> Result<(), Fault>
     ensures few { OnOk result (words ≤ MAX_WORDS) }
@@ -37,11 +46,7 @@ pub fn check_cells(count: u32, dim: u32) -> Result<(), Fault>
     ensures ok { OnOk result (cells_refusal count dim ≡ None) }
     ensures err { IfErr result (λ fault. cells_refusal count dim ≡ Some fault) }
 {
-    check_limit(
-        Quantity::Cells,
-        u64::from(count) * u64::from(dim),
-        MAX_CELLS,
-    )
+    check_product(Quantity::Cells, count, dim, MAX_CELLS)
 }
 
 /// Refuses more answers, so many to each query, than are kept beside a build.
@@ -50,11 +55,7 @@ pub fn check_answers(count: u32, k: u32) -> Result<(), Fault>
     ensures ok { OnOk result (answers_refusal count k ≡ None) }
     ensures err { IfErr result (λ fault. answers_refusal count k ≡ Some fault) }
 {
-    check_limit(
-        Quantity::Answers,
-        u64::from(count) * u64::from(k),
-        MAX_ANSWERS,
-    )
+    check_product(Quantity::Answers, count, k, MAX_ANSWERS)
 }
 
 /// The pool that settings ask for, where no round has more than `searches` searches.

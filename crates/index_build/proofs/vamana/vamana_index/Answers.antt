@@ -4,7 +4,7 @@ use Rattle.vamana_build.specs.Building.{Building}
 use Rattle.vamana_build.specs.VamanaIndex.{vamana_index}
 use Rattle.vamana_build.specs.declared.settings.VamanaSettings.{VamanaSettings}
 use Rattle.index_build.proofs.IndexFacts.{same_index}
-use Rattle.index_build.proofs.vamana.index_on.Goals as goal
+use Rattle.index_build.proofs.vamana.vamana_index.Goals as goal
 
 points_of_build : (a b : Building) → a ≡ b → a.points ≡ b.points
 points_of_build a b e = ap (λ (x : Building). x.points) e
