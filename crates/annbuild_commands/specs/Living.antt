@@ -1,21 +1,24 @@
 -- `live` as data. What the files don't decide is in which batch each query is answered while the index is being built: that
 -- is the run, any list of batches that is lawful.
-use Rattle.std.specs.Prelude.{◌≡◌, ℕ, ◌≤◌, Bool, true, List, [], ◌∷◌, ◌++◌, length, map, zip, Option, Some}
+use Rattle.std.specs.Prelude.{◌≡◌, ℕ, ◌*◌, ◌≤◌, Bool, true, List, [], ◌∷◌, ◌++◌, length, map, zip, Option, Some}
 use Rattle.std.specs.List.{All}
 use Rattle.std.specs.Option.{option_or}
-use Rattle.ann_defs.specs.Distance.{PointSet}
+use Rattle.ann_defs.specs.Distance.{PointSet, dim_of}
 use Rattle.ann_defs.specs.Graph.{row_in}
 use Rattle.ann_defs.specs.GreedySearch.{answer_of}
-use Rattle.ann_defs.specs.declared.limits.TheConstants.{MAX_POINTS}
+use Rattle.ann_defs.specs.declared.limits.TheConstants.{MAX_ANSWERS, MAX_POINTS, MAX_WORDS}
 use Rattle.ann_defs.specs.declared.near.Near.{Near}
 use Rattle.ann_shelf.specs.Files.{bytes_of}
+use Rattle.bin_files.specs.Rows.{ArePoints}
 use Rattle.graph_rows.specs.View.{contents}
 use Rattle.graph_rows.specs.WellFormed.{IsWellFormed}
 use Rattle.live_session.specs.Lawful.{is_lawful}
 use Rattle.live_session.specs.LiveAnswers.{batches_in}
 use Rattle.live_session.specs.declared.session.Session.{Session}
+use Rattle.command_options.specs.Settings.{IsInRange}
 use Rattle.command_options.specs.declared.settings.Settings.{Settings}
 use Rattle.command_options.specs.declared.role.Role.TheVariants.{Base, Index, Queries}
+use Rattle.command_options.specs.declared.verb.Verb.TheVariants.{Live}
 use Rattle.annbuild_lines.specs.Lines.{batch_text}
 use Rattle.annbuild_lines.specs.declared.batch_line.Moment.{Moment}
 use Rattle.annbuild_lines.specs.declared.batch_line.Moment.TheVariants.{During, After}
@@ -26,7 +29,7 @@ use Rattle.command_shapes.specs.Reading.{points_read, points_in, IsPointsText}
 use Rattle.command_shapes.specs.Writing.{writing_runs, stored_as}
 use Rattle.annbuild_commands.specs.Building.{index_stored}
 use Rattle.annbuild_commands.specs.Fitting.{queries_unfit}
-use Rattle.index_build.specs.IndexOf.{index_of, words_of, vamana_batches, vamana_rows, vamana_start}
+use Rattle.index_build.specs.IndexOf.{index_of, words_of, vamana_batches, vamana_rows, vamana_start, vamana_words}
 use Rattle.annbuild_commands.specs.IndexTexts.{file_of, line_of}
 use Rattle.index_build.specs.Limits.{words_refusal, answers_refusal}
 
@@ -75,6 +78,14 @@ living base index queries o = record {
 -- what is left of it once the points and the queries are read
 abbrev pub telling : PointSet → (Q : List (List ℕ)) → (index : List ℕ) → Settings → Doing
 telling X Q index o = writing_runs (Some (stored_as Index index (file_of (index_of X o)))) (may_run X.vectors Q o) (live_pieces X Q o)
+
+-- points, and queries that may be asked of them with these settings
+pub record AreForLive (X Q : List (List ℕ)) (o : Settings) : Type 0 where
+  pub options : IsInRange Live o
+  pub dim : dim_of Q ≡ dim_of X
+  pub words : vamana_words (length X) o ≤ MAX_WORDS
+  pub answers : length Q * o.k ≤ MAX_ANSWERS
+  pub asked : ArePoints Q
 
 -- a session over points and queries with these settings
 pub record IsSession (X : PointSet) (Q : List (List ℕ)) (o : Settings) (s : Session) : Type 0 where

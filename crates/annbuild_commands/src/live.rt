@@ -1,15 +1,11 @@
 //! `live`: the index of a file of points, built while callers ask it.
-ghost use Rattle.std.specs.Prelude.{◌≡◌, ◌+◌, ◌*◌, ◌≤◌, IfOk, length, vec_capacity};
-ghost use Rattle.ann_defs.specs.Distance.{dim_of};
-ghost use Rattle.ann_defs.specs.declared.limits.TheConstants.{MAX_ANSWERS, MAX_WORDS};
-ghost use Rattle.bin_files.specs.Rows.{ArePoints};
+ghost use Rattle.std.specs.Prelude.{◌≡◌, ◌+◌, ◌*◌, ◌≤◌, IfOk, vec_capacity};
 ghost use Rattle.command_options.specs.Settings.{IsInRange};
 ghost use Rattle.command_options.specs.declared.verb.Verb.TheVariants as verbs;
 ghost use Rattle.command_shapes.specs.Ends.{Ends, fault_in};
 ghost use Rattle.graph_rows.specs.Stamps.{stamped};
 ghost use Rattle.graph_rows.specs.View.{contents};
-ghost use Rattle.index_build.specs.IndexOf.{vamana_words};
-ghost use Rattle.annbuild_commands.specs.Living.{living, telling, AreAsked, IsSession};
+ghost use Rattle.annbuild_commands.specs.Living.{living, telling, AreAsked, AreForLive, IsSession};
 
 use crate::batch_lines::print_session;
 use crate::index_told::line_of_built;
@@ -46,10 +42,7 @@ fn session_on<R: Threads + Wait + Sync, P: Rounds, G: Gate + Sync>(
     pool: &mut P,
     gate: &G,
 ) -> Result<Session, NoMemory>
-    requires options { IsInRange verbs.Live options.now }
-    requires dim { dim_of inputs.now.queries.vectors ≡ dim_of inputs.now.points.vectors }
-    requires words { vamana_words (length inputs.now.points.vectors) options.now ≤ MAX_WORDS }
-    requires answers { length inputs.now.queries.vectors * options.now.k ≤ MAX_ANSWERS }
+    requires inputs { AreForLive inputs.now.points.vectors inputs.now.queries.vectors options.now }
     requires workers { (1 ≤ P.count pool.old) × (P.count pool.old ≤ 64) }
     ensures { IfOk result (IsSession inputs.now.points inputs.now.queries.vectors options.now) }
 {
@@ -80,11 +73,7 @@ fn make_session<R: Threads + Wait + Sync, G: Gate + Sync>(
     options: &Settings,
     gate: &G,
 ) -> Result<Heard, NoMemory>
-    requires options { IsInRange verbs.Live options.now }
-    requires dim { dim_of inputs.now.queries.vectors ≡ dim_of inputs.now.points.vectors }
-    requires words { vamana_words (length inputs.now.points.vectors) options.now ≤ MAX_WORDS }
-    requires answers { length inputs.now.queries.vectors * options.now.k ≤ MAX_ANSWERS }
-    requires asked { ArePoints inputs.now.queries.vectors }
+    requires { AreForLive inputs.now.points.vectors inputs.now.queries.vectors options.now }
     ensures session { IfOk result (λ h. IsSession inputs.now.points inputs.now.queries.vectors options.now h.session) }
     ensures asked { IfOk result (λ h. AreAsked options.now h.session) }
     ensures room { IfOk result (λ h. 22 * options.now.k + 27 ≤ vec_capacity h.buffer) }
@@ -107,11 +96,7 @@ fn told_live<R: Threads + Wait + Sync, F: Shelf, O: Out, G: Gate + Sync>(
     out: &mut O,
     gate: &G,
 ) -> Result<(), Fault>
-    requires options { IsInRange verbs.Live options.now }
-    requires dim { dim_of inputs.now.queries.vectors ≡ dim_of inputs.now.points.vectors }
-    requires words { vamana_words (length inputs.now.points.vectors) options.now ≤ MAX_WORDS }
-    requires answers { length inputs.now.queries.vectors * options.now.k ≤ MAX_ANSWERS }
-    requires asked { ArePoints inputs.now.queries.vectors }
+    requires { AreForLive inputs.now.points.vectors inputs.now.queries.vectors options.now }
     ensures { Ends (telling inputs.now.points inputs.now.queries.vectors name.now options.now) (F.shown shelf.old) (F.shown shelf.new) (O.got out.old) (O.got out.new) (fault_in result) }
 {
     let Heard {

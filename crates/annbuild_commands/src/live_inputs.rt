@@ -5,7 +5,6 @@ ghost use Rattle.ann_defs.specs.Distance.{dim_of};
 ghost use Rattle.ann_defs.specs.declared.limits.TheConstants.{MAX_ANSWERS, MAX_WORDS};
 ghost use Rattle.ann_shelf.specs.Files.{bytes_of};
 ghost use Rattle.ann_shelf.specs.Written.{Got};
-ghost use Rattle.bin_files.specs.Rows.{ArePoints};
 ghost use Rattle.command_options.specs.Settings.{IsInRange};
 ghost use Rattle.command_options.specs.declared.role.Role.TheVariants as roles;
 ghost use Rattle.command_options.specs.declared.verb.Verb.TheVariants as verbs;
@@ -13,7 +12,7 @@ ghost use Rattle.command_shapes.specs.Ends.{Ends, HaveRead};
 ghost use Rattle.command_shapes.specs.Reading.{AreOf};
 ghost use Rattle.index_build.specs.IndexOf.{vamana_words};
 ghost use Rattle.index_build.specs.Limits.{words_refusal, answers_refusal};
-ghost use Rattle.annbuild_commands.specs.Living.{living, live_refusal};
+ghost use Rattle.annbuild_commands.specs.Living.{living, live_refusal, AreForLive};
 
 use crate::inputs::unfit_queries;
 use ann_shelf::Shelf;
@@ -67,10 +66,7 @@ pub(crate) fn read_live<F: Shelf>(
     requires { IsInRange verbs.Live request.now.settings }
     ensures points { IfOk result (λ x. IfSome (F.shown shelf.old).held (λ files. AreOf roles.Base request.now.settings.element (bytes_of files request.now.names.first.now) x.points)) }
     ensures queries { IfOk result (λ x. IfSome (F.shown shelf.old).held (λ files. AreOf roles.Queries request.now.settings.element (bytes_of files request.now.names.third.now) x.queries)) }
-    ensures asked { IfOk result (λ x. ArePoints x.queries.vectors) }
-    ensures dim { IfOk result (λ x. dim_of x.queries.vectors ≡ dim_of x.points.vectors) }
-    ensures words { IfOk result (λ x. vamana_words (length x.points.vectors) request.now.settings ≤ MAX_WORDS) }
-    ensures answers { IfOk result (λ x. length x.queries.vectors * request.now.settings.k ≤ MAX_ANSWERS) }
+    ensures allowed { IfOk result (λ x. AreForLive x.points.vectors x.queries.vectors request.now.settings) }
     ensures fit { IfOk result (λ x. live_refusal x.points.vectors x.queries.vectors request.now.settings ≡ None) }
     ensures read { OnOk result (HaveRead (living request.now.names.first.now request.now.names.second.now request.now.names.third.now request.now.settings).reads (F.shown shelf.old) (F.shown shelf.new)) }
     ensures failed { IfErr result (λ fault. (had : Got) → Ends (living request.now.names.first.now request.now.names.second.now request.now.names.third.now request.now.settings) (F.shown shelf.old) (F.shown shelf.new) had had (Some fault)) }

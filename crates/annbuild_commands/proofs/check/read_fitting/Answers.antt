@@ -21,10 +21,8 @@ returns-in_err-both-clause-failed g c =
 pub returns-in-Some-clause-failed : goal.returns-in-Some-clause-failed
 returns-in-Some-clause-failed g c had =
     let names = c.args.request.now.names in
-    let o = c.args.request.now.settings in
-    let X = c.in_ok-both.both.points in
-    let i = contents c.in_ok-both.both.index in
-    let old = g.F.Shelf.shown c.args.shelf.now in
-    fails_rest (checking names.first.now names.second.now o) old (g.F.Shelf.shown c.read_indexed.new.shelf) had c.in-Some.fault (index_only X i c.in-Some.fault (sym c.in-Some.ensures)) c.in_ok-both.ensures.read
-    (both_told old.held old.held refl c.in_ok-both.ensures.indexed.points c.in_ok-both.ensures.indexed.index (λ files of is.
-    index_unfit_read o.element (bytes_of files names.first.now) (bytes_of files names.second.now) X i of is ∙ sym c.in-Some.ensures))
+    let both = c.in_ok-both.both in
+    let indexed = c.in_ok-both.ensures.indexed in
+    fails_rest (checking names.first.now names.second.now c.args.request.now.settings) _ _ had c.in-Some.fault (index_only both.points (contents both.index) c.in-Some.fault (sym c.in-Some.ensures)) c.in_ok-both.ensures.read
+    (both_told _ _ refl indexed.points indexed.index (λ files of is.
+    index_unfit_read c.args.request.now.settings.element (bytes_of files names.first.now) (bytes_of files names.second.now) both.points (contents both.index) of is ∙ sym c.in-Some.ensures))

@@ -24,5 +24,5 @@ returns g c =
     (session_is Y s o (ap (λ (z : VamanaSettings). z.order) same ∙ of.order) (ap (λ (z : VamanaSettings). z.start) same ∙ of.start) (ap (λ (z : VamanaSettings). z.seed) same ∙ of.seed)
     (ap (λ (z : VamanaSettings). z.degree) same ∙ of.degree) (ap (λ (z : VamanaSettings). z.beam) same ∙ of.beam) (ap (λ (z : VamanaSettings). z.alpha.num) same ∙ of.num)
     (ap (λ (z : VamanaSettings). z.alpha.den) same ∙ of.den) (ap (λ (z : VamanaSettings). z.cap) same ∙ of.cap) (ap (λ (z : VamanaSettings). z.passes) same ∙ of.passes)
-    Q x c.marked.result c.stamp_for.result (live_kind o c.requires.options) (live_index Y o c.requires.options) told.index told.well_formed told.lawful told.live told.last
+    Q x c.marked.result c.stamp_for.result (live_kind o c.requires.inputs.options) (live_index Y o c.requires.inputs.options) told.index told.well_formed told.lawful told.live told.last
     c.marked.ensures.index c.marked.ensures.live c.marked.ensures.last (mark.value ∙ ap (λ (Z : PointSet). stamp_for Z o) (sym at)) mark.allowed)
