@@ -1,5 +1,5 @@
-use Rattle.std.proofs.Common.{◌≡◌, ◌∙◌, ◌+◌, ◌*◌, ◌++◌, ◌<◌, ℕ, List, length, take, drop, sym, ap, subst, arith}
-use Rattle.std.proofs.lemmas.List.{take_at}
+use Rattle.std.proofs.Common.{◌≡◌, ◌∙◌, ◌+◌, ◌*◌, ◌<◌, List, length, sym, ap, subst, arith}
+use Rattle.std.proofs.lemmas.List.{with_items_is}
 use Rattle.ann_defs.specs.Graph.{row_in}
 use Rattle.ann_defs.specs.declared.limits.TheConstants.{MAX_POINTS}
 use Rattle.beam_search.specs.Room.{Room}
@@ -29,28 +29,21 @@ change_of-requires-clause-left g c κs within =
     let plan = v.plan.now in
     some_left plan.points.now.vectors plan.settings v.batch v.next _ c.self.invariant.0.next_is c.in-Some.is
 
-kept : (len : ℕ) (items posts : List (Post Room)) → length posts ≡ len → take len (posts ++ drop (length posts) items) ≡ posts
-kept len items posts e = take_at posts (drop (length posts) items) len e
-
-same_counts : (len : ℕ) (items counts : List ℕ) → length counts ≡ len → take len (counts ++ drop (length counts) items) ≡ counts
-same_counts len items counts e = take_at counts (drop (length counts) items) len e
-
 pub invariant_of-self-2 : goal.invariant_of-self-2
 invariant_of-self-2 g c =
     let v = c.self.inside in
     let plan = v.plan.now in
     let points = plan.points.now.vectors in
-    let s = plan.settings in
     let next = c.next_places-self-inside in
     let posts : List (Post Room) = c.change_of.new.posts in
-    let whole = kept v.posts.len v.posts.items posts (c.change_of.auto.posts ∙ c.as_mut_slice-2.ensures.len) in
+    let whole = with_items_is v.posts posts (c.change_of.auto.posts ∙ c.as_mut_slice-2.ensures.len) in
     let count : length posts ≡ length v.posts.items = c.change_of.auto.posts ∙ ap length c.as_mut_slice-2.ensures.value in
-    let built = stepped points s v.batch v.graph c.put_into.new.graph v.batches next.new.batches v.next next.result v.posts.items posts _ c.in_ok-change.change (start_below plan) (sym (ap length plan.ordered) ∙ plan.whole) c.self.invariant.0 c.in-Some.is c.in_ok-change.ensures.change c.put_into.ensures
+    let built = stepped points plan.settings v.batch v.graph c.put_into.new.graph v.batches next.new.batches v.next next.result v.posts.items posts _ c.in_ok-change.change (start_below plan) (sym (ap length plan.ordered) ∙ plan.whole) c.self.invariant.0 c.in-Some.is c.in_ok-change.ensures.change c.put_into.ensures
     next.ensures.next next.ensures.fits next.ensures.given
     c.in_ok-change.ensures.serve count in (
-      subst (λ (ps : List (Post Room)). IsBuilt points s (v.batch + 1) c.put_into.new.graph next.new.batches next.result ps) (sym whole) built,
+      subst (λ (ps : List (Post Room)). IsBuilt points plan.settings (v.batch + 1) c.put_into.new.graph next.new.batches next.result ps) (sym whole) built,
       c.self.invariant.1,
-      subst (AreSettled (build_at points s (v.batch + 1)) (row_in (rows_at points s (v.batch + 1)))) (sym (same_counts v.settled.len v.settled.items c.change_of.new.counts (c.change_of.auto.counts ∙ c.as_mut_slice.ensures.len))) c.in_ok-change.ensures.settled,
+      subst (AreSettled (build_at points plan.settings (v.batch + 1)) (row_in (rows_at points plan.settings (v.batch + 1)))) (sym (with_items_is v.settled c.change_of.new.counts (c.change_of.auto.counts ∙ c.as_mut_slice.ensures.len))) c.in_ok-change.ensures.settled,
     )
 
 pub returns-clause-some : goal.returns-clause-some
@@ -58,7 +51,7 @@ returns-clause-some g c =
     let v = c.self.inside in
     let plan = v.plan.now in
     let posts : List (Post Room) = c.change_of.new.posts in
-    let whole = kept v.posts.len v.posts.items posts (c.change_of.auto.posts ∙ c.as_mut_slice-2.ensures.len) in
+    let whole = with_items_is v.posts posts (c.change_of.auto.posts ∙ c.as_mut_slice-2.ensures.len) in
     let count : length posts ≡ length v.posts.items = c.change_of.auto.posts ∙ ap length c.as_mut_slice-2.ensures.value in
     let less = some_left plan.points.now.vectors plan.settings v.batch v.next _ c.self.invariant.0.next_is c.in-Some.is in (
       subst (λ (b : Building). b.batch < batches_of b.points b.settings) c.self.view_is less,
