@@ -1,10 +1,12 @@
 -- What the layers before a batch hold.
-use Rattle.std.proofs.Common.{◌≡◌, ◌∙◌, ℕ, suc, ◌-◌, ◌≤◌, List, length, sym, ap, arith}
+use Rattle.std.proofs.Common.{◌≡◌, ◌∙◌, ℕ, suc, ◌-◌, ◌≤◌, List, [], length, get_or, sym, ap, arith}
 use Rattle.std.specs.Prelude.{nat_lt}
-use Rattle.ann_defs.specs.Graph.{row_in}
+use Rattle.std.proofs.lemmas.List.{get_or_default}
+use Rattle.ann_defs.specs.Graph.{has, row_in}
 use Rattle.graph_rows.specs.Flat.{Flat}
-use Rattle.graph_rows.specs.Layers.{layer_row}
-use Rattle.layered_search.specs.Entering.{layer_at, holds_at}
+use Rattle.graph_rows.specs.Index.{layer_ids}
+use Rattle.graph_rows.specs.Layers.{Layered, layer_row}
+use Rattle.layered_search.specs.Entering.{layer_at}
 use Rattle.hnsw_build.specs.declared.layers.Layers.{Layers}
 use Rattle.hnsw_build.specs.Layering.{is_in, top_of}
 use Rattle.hnsw_build.specs.LayeredInsert.{row_of_layer}
@@ -40,8 +42,19 @@ module _ (w : Layers) where
     here : suc (l - 1) ≡ l
     here = omega arith
 
-    pub upper_held_is : holds_at w.upper.now (l - 1) ≡ is_in levels l
-    upper_held_is = (λ i u. held_is points w.plan.now.settings levels (plan_layered w.plan.now) w.done w.upper.now w.upper_is (l - 1) u (omega arith) i) ∙ ap (is_in levels) here
+    -- the layer there, with any other in the place of one that isn't there
+    module _ (d : Layered) where
+      there : get_or w.upper.now (l - 1) d ≡ layer_at w.upper.now (l - 1)
+      there = let many = upper_len in get_or_default w.upper.now (l - 1) d (record { width = 0; entries = [] }) (omega (arith, many, some, le))
 
-    pub upper_row_is : layer_row (layer_at w.upper.now (l - 1)) ≡ row_of_layer (layers_in w) l
-    upper_row_is = (λ i u. row_is points w.plan.now.settings levels (plan_layered w.plan.now) w.done w.upper.now w.upper_is (l - 1) u (omega arith) i) ∙ ap (row_of_layer (layers_in w)) here
+      pub upper_held_is : (λ u. has (layer_ids (get_or w.upper.now (l - 1) d).entries) u) ≡ is_in levels l
+      upper_held_is =
+          ap (λ (k : Layered). λ u. has (layer_ids k.entries) u) there
+          ∙ (λ i u. held_is points w.plan.now.settings levels (plan_layered w.plan.now) w.done w.upper.now w.upper_is (l - 1) u (omega arith) i)
+          ∙ ap (is_in levels) here
+
+      pub upper_row_is : layer_row (get_or w.upper.now (l - 1) d) ≡ row_of_layer (layers_in w) l
+      upper_row_is =
+          ap (λ (k : Layered). layer_row k) there
+          ∙ (λ i u. row_is points w.plan.now.settings levels (plan_layered w.plan.now) w.done w.upper.now w.upper_is (l - 1) u (omega arith) i)
+          ∙ ap (row_of_layer (layers_in w)) here

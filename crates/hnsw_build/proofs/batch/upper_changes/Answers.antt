@@ -1,9 +1,4 @@
-use Rattle.std.proofs.Common.{◌≡◌, ◌-◌, ◌∙◌, ◌++◌, ◌∷◌, [], ℕ, List, Bool, get_or, sym, ap, arith}
-use Rattle.std.proofs.lemmas.List.{get_or_default}
-use Rattle.ann_defs.specs.Graph.{has}
-use Rattle.graph_rows.specs.Index.{layer_ids}
-use Rattle.graph_rows.specs.Layers.{Layered, layer_row}
-use Rattle.layered_search.specs.Entering.{layer_at}
+use Rattle.std.proofs.Common.{◌∙◌, ◌++◌, ◌∷◌, [], ℕ, List, Bool, sym, ap, arith}
 use Rattle.hnsw_build.specs.Grown.{build_in, layers_in}
 use Rattle.hnsw_build.specs.Wanted.{change_in}
 use Rattle.hnsw_build.proofs.Ranges.{map_ones_more}
@@ -20,25 +15,15 @@ bounds-layers-layer g c =
 
 pub layer_change-requires-clause-held : goal.layer_change-requires-clause-held
 layer_change-requires-clause-held g c κs within =
-    let w = c.args.layers.now in
-    let l = c.loop-layer.layer in
-    let many = upper_len w in
     let top = c.top-layer-end.ensures.value in
     let at = c.loop-layer-test.true in
-    let low = c.loop-layer.auto.layer in
-    let here : get_or w.upper.now (l - 1) c.index-layers-layer.result ≡ layer_at w.upper.now (l - 1) = get_or_default w.upper.now (l - 1) c.index-layers-layer.result (record { width = 0; entries = [] }) (omega (arith, many, top, at, low)) in
-    λ u. ap (λ (k : Layered). has (layer_ids k.entries) u) here ∙ ap (λ (h : ℕ → Bool). h u) (upper_held_is w l low (omega (arith, top, at)))
+    λ u. ap (λ (h : ℕ → Bool). h u) (upper_held_is c.args.layers.now c.loop-layer.layer c.loop-layer.auto.layer (omega (arith, top, at)) c.index-layers-layer.result)
 
 pub layer_change-requires-clause-old : goal.layer_change-requires-clause-old
 layer_change-requires-clause-old g c κs within =
-    let w = c.args.layers.now in
-    let l = c.loop-layer.layer in
-    let many = upper_len w in
     let top = c.top-layer-end.ensures.value in
     let at = c.loop-layer-test.true in
-    let low = c.loop-layer.auto.layer in
-    let here : get_or w.upper.now (l - 1) c.index-layers-layer.result ≡ layer_at w.upper.now (l - 1) = get_or_default w.upper.now (l - 1) c.index-layers-layer.result (record { width = 0; entries = [] }) (omega (arith, many, top, at, low)) in
-    λ u. ap (λ (k : Layered). layer_row k u) here ∙ ap (λ (r : ℕ → List ℕ). r u) (upper_row_is w l low (omega (arith, top, at)))
+    λ u. ap (λ (r : ℕ → List ℕ). r u) (upper_row_is c.args.layers.now c.loop-layer.layer c.loop-layer.auto.layer (omega (arith, top, at)) c.index-layers-layer.result)
 
 pub loop-layer-preserved : goal.loop-layer-preserved
 loop-layer-preserved g c =

@@ -1,15 +1,11 @@
-use Rattle.std.proofs.Common.{◌≡◌, ◌-◌, ◌∙◌, [], ℕ, List, Bool, true, length, get_or, sym, ap, subst, arith}
+use Rattle.std.proofs.Common.{◌≡◌, ◌-◌, ◌≤◌, ◌∙◌, ℕ, List, Bool, true, length, get_or, sym, ap, subst, arith}
 use Rattle.std.specs.List.{All}
-use Rattle.std.proofs.lemmas.List.{get_or_default}
-use Rattle.ann_defs.specs.Graph.{has, row_in, IsGraph}
+use Rattle.ann_defs.specs.Graph.{row_in, IsGraph}
 use Rattle.ann_defs.specs.GreedySearch.{found_of}
 use Rattle.beam_search.specs.Measured.{AreMeasured}
 use Rattle.beam_search.specs.Room.{Room}
-use Rattle.graph_rows.specs.Index.{layer_ids}
-use Rattle.graph_rows.specs.Layers.{Layered, layer_row}
-use Rattle.layered_search.specs.Entering.{layer_at}
+use Rattle.graph_rows.specs.Layers.{layer_row}
 use Rattle.hnsw_build.specs.Layering.{is_in}
-use Rattle.hnsw_build.specs.LayeredInsert.{row_of_layer}
 use Rattle.hnsw_build.specs.Grown.{build_in, layers_in}
 use Rattle.hnsw_build.proofs.PlanFacts.{plan_layered, plan_low}
 use Rattle.hnsw_build.proofs.GoodLayers.{layer_graph}
@@ -52,45 +48,26 @@ search-requires-else-layer-eq0-clause-graph c =
     let w = c.args.layers.now in
     let n = length w.plan.now.points.now.vectors in
     let l = c.args.layer in
+    let some : 1 ≤ l = let above = c.if-layer-eq0.false in omega (arith, above) in
     let here = c.index-layers-layer.result in
-    let some = c.if-layer-eq0.false in
-    let at = c.requires.layer in
-    let is : get_or w.upper.now (l - 1) here ≡ layer_at w.upper.now (l - 1) = let many = upper_len w in get_or_default w.upper.now (l - 1) here (record { width = 0; entries = [] }) (omega (arith, many, at, some)) in
-    subst (λ (k : Layered). IsGraph n (λ u. has (layer_ids k.entries) u) (layer_row k)) (sym is)
-    (subst (λ (h : ℕ → Bool). IsGraph n h (layer_row (layer_at w.upper.now (l - 1)))) (sym (upper_held_is w l (omega (arith, some)) at))
-    (subst (λ (r : ℕ → List ℕ). IsGraph n (is_in w.plan.now.levels.items l) r) (sym (upper_row_is w l (omega (arith, some)) at))
-    (layer_graph (build_in w) (plan_layered w.plan.now) (layers_in w) (good_in w) l at)))
+    subst (λ (h : ℕ → Bool). IsGraph n h (layer_row (get_or w.upper.now (l - 1) here))) (sym (upper_held_is w l some c.requires.layer here))
+    (subst (λ (r : ℕ → List ℕ). IsGraph n (is_in w.plan.now.levels.items l) r) (sym (upper_row_is w l some c.requires.layer here))
+    (layer_graph (build_in w) (plan_layered w.plan.now) (layers_in w) (good_in w) l c.requires.layer))
 
 pub search-requires-else-layer-eq0-clause-starts : goal.search-requires-else-layer-eq0-clause-starts
 search-requires-else-layer-eq0-clause-starts c =
-    let w = c.args.layers.now in
-    let l = c.args.layer in
-    let here = c.index-layers-layer.result in
-    let some = c.if-layer-eq0.false in
-    let at = c.requires.layer in
-    let is : get_or w.upper.now (l - 1) here ≡ layer_at w.upper.now (l - 1) = let many = upper_len w in get_or_default w.upper.now (l - 1) here (record { width = 0; entries = [] }) (omega (arith, many, at, some)) in
-    subst (λ (k : Layered). All (λ u. has (layer_ids k.entries) u ≡ true) c.args.entries.now) (sym is)
-    (subst (λ (h : ℕ → Bool). All (λ u. h u ≡ true) c.args.entries.now) (sym (upper_held_is w l (omega (arith, some)) at)) c.requires.entries)
+    let some : 1 ≤ c.args.layer = let above = c.if-layer-eq0.false in omega (arith, above) in
+    subst (λ (h : ℕ → Bool). All (λ u. h u ≡ true) c.args.entries.now) (sym (upper_held_is c.args.layers.now c.args.layer some c.requires.layer c.index-layers-layer.result)) c.requires.entries
 
 pub returns-else-layer-eq0-clause-found : goal.returns-else-layer-eq0-clause-found
 returns-else-layer-eq0-clause-found c =
     let w = c.args.layers.now in
-    let l = c.args.layer in
-    let here = c.index-layers-layer.result in
-    let some = c.if-layer-eq0.false in
-    let at = c.requires.layer in
-    let is : get_or w.upper.now (l - 1) here ≡ layer_at w.upper.now (l - 1) = let many = upper_len w in get_or_default w.upper.now (l - 1) here (record { width = 0; entries = [] }) (omega (arith, many, at, some)) in
-    let row : layer_row (get_or w.upper.now (l - 1) here) ≡ row_of_layer (layers_in w) l = ap (λ (k : Layered). layer_row k) is ∙ upper_row_is w l (omega (arith, some)) at in
+    let some : 1 ≤ c.args.layer = let above = c.if-layer-eq0.false in omega (arith, above) in
     ap (λ (r : Room). r.last.found) c.search-else-layer-eq0.ensures.walk
-    ∙ ap (λ (r : ℕ → List ℕ). found_of w.plan.now.points.now.vectors r c.args.query.now w.plan.now.settings.beam c.args.entries.now) row
+    ∙ ap (λ (r : ℕ → List ℕ). found_of w.plan.now.points.now.vectors r c.args.query.now w.plan.now.settings.beam c.args.entries.now) (upper_row_is w c.args.layer some c.requires.layer c.index-layers-layer.result)
 
 pub returns-else-layer-eq0-clause-measured : goal.returns-else-layer-eq0-clause-measured
 returns-else-layer-eq0-clause-measured c =
     let w = c.args.layers.now in
-    let l = c.args.layer in
-    let here = c.index-layers-layer.result in
-    let some = c.if-layer-eq0.false in
-    let at = c.requires.layer in
-    let is : get_or w.upper.now (l - 1) here ≡ layer_at w.upper.now (l - 1) = let many = upper_len w in get_or_default w.upper.now (l - 1) here (record { width = 0; entries = [] }) (omega (arith, many, at, some)) in
-    subst (λ (h : ℕ → Bool). AreMeasured w.plan.now.points.now.vectors c.args.query.now h c.search-else-layer-eq0.new.scratch.last.found) (upper_held_is w l (omega (arith, some)) at)
-    (subst (λ (k : Layered). AreMeasured w.plan.now.points.now.vectors c.args.query.now (λ u. has (layer_ids k.entries) u) c.search-else-layer-eq0.new.scratch.last.found) is c.search-else-layer-eq0.ensures.found)
+    let some : 1 ≤ c.args.layer = let above = c.if-layer-eq0.false in omega (arith, above) in
+    subst (λ (h : ℕ → Bool). AreMeasured w.plan.now.points.now.vectors c.args.query.now h c.search-else-layer-eq0.new.scratch.last.found) (upper_held_is w c.args.layer some c.requires.layer c.index-layers-layer.result) c.search-else-layer-eq0.ensures.found
