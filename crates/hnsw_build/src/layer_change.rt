@@ -1,10 +1,11 @@
 //! What a batch changes in a layer.
 ghost use Rattle.std.specs.Prelude.{◌≡◌, ◌+◌, ◌<◌, ◌≤◌, ℕ, IfOk, length, map};
-ghost use Rattle.std.specs.List.{All, range_with_len};
+ghost use Rattle.std.specs.List.{All};
+ghost use Rattle.ann_defs.specs.declared.limits.TheConstants.{MAX_DEGREE};
 ghost use Rattle.ann_defs.specs.Ordered.{Ascends};
 ghost use Rattle.steal_pool.specs.Work.{AllServe};
 ghost use Rattle.hnsw_build.specs.Layering.{top_of, is_in};
-ghost use Rattle.hnsw_build.specs.LayeredInsert.{row_of_layer};
+ghost use Rattle.hnsw_build.specs.LayeredInsert.{row_of_layer, bound_of};
 ghost use Rattle.hnsw_build.specs.Grown.{build_in, layers_in, ServesIn};
 ghost use Rattle.hnsw_build.specs.Wanted.{change_in, rows_of_point};
 
@@ -53,11 +54,9 @@ pub(crate) fn layer_change<R: Threads + Sync, P: Rounds, G: Gate + Sync, O: Rows
         ids: ids.as_slice(),
         blocks: &blocks,
     };
-    let degree = layers.plan.settings.degree;
-    let bound = if layer == 0 { degree + degree } else { degree };
     let merging = Merges {
         plan: layers.plan,
-        bound,
+        bound: row_bound(layers.plan.settings.degree, layer),
     };
     changed_rows(
         rt,
@@ -70,4 +69,16 @@ pub(crate) fn layer_change<R: Threads + Sync, P: Rounds, G: Gate + Sync, O: Rows
         posts,
         gate,
     )
+}
+
+// The greatest length of a row of a layer.
+fn row_bound(degree: u32, layer: u8) -> u32
+    requires { degree ≤ 64 }
+    ensures value { result ≡ bound_of degree layer }
+    ensures bound { result ≤ MAX_DEGREE }
+{
+    if layer == 0 {
+        return degree + degree;
+    }
+    degree
 }

@@ -1,8 +1,7 @@
-use Rattle.std.proofs.Common.{◌≡◌, ◌+◌, ◌≤◌, ◌∙◌, ℕ, List, cond, length, sym, ap, subst, arith, IfOk}
+use Rattle.std.proofs.Common.{◌≡◌, ◌+◌, ◌≤◌, ◌∙◌, ℕ, List, length, sym, ap, subst, arith, IfOk}
 use Rattle.std.specs.Prelude.{slice_index}
 use Rattle.std.specs.List.{All}
 use Rattle.std.specs.Ordering.{nat_cmp}
-use Rattle.std.proofs.lemmas.Bool.{eq-eqb, ne_eqb}
 use Rattle.std.proofs.lemmas.List.{length-map}
 use Rattle.ann_defs.specs.Ordered.{Ascends}
 use Rattle.ann_defs.specs.Graph.{has}
@@ -11,7 +10,7 @@ use Rattle.batch_insert.specs.Padded.{padded, row_by_id}
 use Rattle.batch_insert.proofs.Padding.{blocks_whole}
 use Rattle.batch_insert.proofs.Ascending.{Rises-filter, rises, ascends}
 use Rattle.hnsw_build.specs.Layering.{is_in}
-use Rattle.hnsw_build.specs.LayeredInsert.{bound_of, new_row_in}
+use Rattle.hnsw_build.specs.LayeredInsert.{new_row_in}
 use Rattle.hnsw_build.specs.Grown.{build_in, layers_in}
 use Rattle.hnsw_build.specs.Wanted.{batch_in}
 use Rattle.hnsw_build.proofs.PlanFacts.{plan_layered}
@@ -19,13 +18,6 @@ use Rattle.hnsw_build.proofs.PointRows.{row_short}
 use Rattle.hnsw_build.proofs.LayersFacts.{good_in}
 use Rattle.hnsw_build.proofs.LayerBatch.{few_pass, layer_batch, layer_changed}
 use Rattle.hnsw_build.proofs.layer_change.layer_change.Goals as goal
-use Rattle.hnsw_build.proofs.layer_change.layer_change.Goals.{then-layer-eq0, else-layer-eq0}
-
-zero_bound : (degree l bound : ℕ) → l ≡ 0 → bound ≡ degree + degree → bound ≡ bound_of degree l
-zero_bound degree l bound e is = is ∙ sym (ap (λ t. cond t (degree + degree) degree) (eq-eqb l 0 e))
-
-other_bound : (degree l bound : ℕ) → (l ≡ 0 → ⊥) → bound ≡ degree → bound ≡ bound_of degree l
-other_bound degree l bound ne is = is ∙ sym (ap (λ t. cond t (degree + degree) degree) (ne_eqb l 0 ne))
 
 pub invariant_of-fresh : goal.invariant_of-fresh
 invariant_of-fresh g c =
@@ -56,14 +48,10 @@ changed_rows-requires-clause-batch g c κs within =
     let n = length w.plan.now.points.now.vectors in
     let l = c.args.layer in
     let old = c.args.old.now in
-    let bound : c.if-layer-eq0.bound ≡ bound_of b.degree l = elim c.if-layer-eq0.branch [
-      | then-layer-eq0 v ↦ zero_bound b.degree l c.if-layer-eq0.bound v.if-layer-eq0.true v.bound-is
-      | else-layer-eq0 v ↦ other_bound b.degree l c.if-layer-eq0.bound v.if-layer-eq0.false v.bound-is
-    ] in
     let is : c.as_slice.result.now ≡ batch_in b c.args.batch.now l = c.as_slice.ensures.value ∙ c.in_ok-ids.ensures in
     let same : c.as_slice.result.now ≡ c.as_slice-2.result.now = c.as_slice.ensures.value ∙ sym c.as_slice-2.ensures.value in
-    subst (λ (ids : List ℕ). IsBatch n c.if-layer-eq0.bound (g.O.Rows.held old) (g.O.Rows.row_of old) (has c.as_slice.result.now) (row_by_id c.as_slice.result.now c.in_ok-blocks.blocks) ids) same
-    (layer_batch b (plan_layered w.plan.now) (layers_in w) (good_in w) l c.requires.layer c.args.batch.now c.requires.ascend c.if-layer-eq0.bound bound (g.O.Rows.held old) c.requires.held (g.O.Rows.row_of old) c.requires.old c.as_slice.result.now is c.in_ok-blocks.blocks c.in_ok-blocks.ensures)
+    subst (λ (ids : List ℕ). IsBatch n c.row_bound.result (g.O.Rows.held old) (g.O.Rows.row_of old) (has c.as_slice.result.now) (row_by_id c.as_slice.result.now c.in_ok-blocks.blocks) ids) same
+    (layer_batch b (plan_layered w.plan.now) (layers_in w) (good_in w) l c.requires.layer c.args.batch.now c.requires.ascend c.row_bound.result c.row_bound.ensures.value (g.O.Rows.held old) c.requires.held (g.O.Rows.row_of old) c.requires.old c.as_slice.result.now is c.in_ok-blocks.blocks c.in_ok-blocks.ensures)
 
 pub returns-clause-change : goal.returns-clause-change
 returns-clause-change g c =
@@ -71,11 +59,7 @@ returns-clause-change g c =
     let b = build_in w in
     let l = c.args.layer in
     let old = c.args.old.now in
-    let bound : c.if-layer-eq0.bound ≡ bound_of b.degree l = elim c.if-layer-eq0.branch [
-      | then-layer-eq0 v ↦ zero_bound b.degree l c.if-layer-eq0.bound v.if-layer-eq0.true v.bound-is
-      | else-layer-eq0 v ↦ other_bound b.degree l c.if-layer-eq0.bound v.if-layer-eq0.false v.bound-is
-    ] in
     let is : c.as_slice.result.now ≡ batch_in b c.args.batch.now l = c.as_slice.ensures.value ∙ c.in_ok-ids.ensures in
     subst (λ (es : List (ℕ × List ℕ)). IfOk c.changed_rows.result (λ (x : List (ℕ × List ℕ)). x ≡ es))
-    (layer_changed b (plan_layered w.plan.now) (layers_in w) (good_in w) l c.requires.layer c.args.batch.now c.requires.ascend c.if-layer-eq0.bound bound (g.O.Rows.held old) c.requires.held (g.O.Rows.row_of old) c.requires.old c.as_slice.result.now is c.in_ok-blocks.blocks c.in_ok-blocks.ensures)
+    (layer_changed b (plan_layered w.plan.now) (layers_in w) (good_in w) l c.requires.layer c.args.batch.now c.requires.ascend c.row_bound.result c.row_bound.ensures.value (g.O.Rows.held old) c.requires.held (g.O.Rows.row_of old) c.requires.old c.as_slice.result.now is c.in_ok-blocks.blocks c.in_ok-blocks.ensures)
     c.changed_rows.ensures.rows
