@@ -24,27 +24,21 @@ sorted_change-requires-clause-inside g c κs within =
     let sorted : c.as_slice.result.now ≡ ordered nat_cmp part = c.as_slice.ensures.value ∙ c.sort_ids.ensures.items ∙ ap (ordered nat_cmp) list in
     subst (All (λ p. p < n)) (sym sorted) (All-ordered (λ p. p < n) part (All-take (λ p. p < n) (c.args.to - c.args.from) (drop c.args.from plan.order.items) (All-drop (λ p. p < n) c.args.from plan.order.items plan.inside)))
 
-pub returns-clause-base : goal.returns-clause-base
-returns-clause-base g c =
+-- what the batch changes in a layer, though it lies in ascending order
+changes : (g : _) (c : goal.After-drop-batch g) (l : ℕ) → let w = c.args.layers.now in
+    change_in (build_in w) (layers_in w) c.as_slice.result.now l ≡ change_in (build_in w) (layers_in w) (batch_at w.plan.now.order.items w.plan.now.cap (w.done + 1)) l
+changes g c l =
     let w = c.args.layers.now in
     let plan = w.plan.now in
-    let b = build_in w in
-    let layers = layers_in w in
     let batch = batch_at plan.order.items plan.cap (w.done + 1) in
     let items : c.in_ok-batch.batch.items ≡ take (c.args.to - c.args.from) (drop c.args.from c.deref.result.now) = search rules in
     let list : c.in_ok-batch.batch.items ≡ batch = items ∙ ap (λ (xs : List ℕ). take (c.args.to - c.args.from) (drop c.args.from xs)) c.deref.ensures.value ∙ batch_is plan w.done c.args.from c.args.to c.requires.from c.requires.to in
     let sorted : c.as_slice.result.now ≡ ordered nat_cmp batch = c.as_slice.ensures.value ∙ c.sort_ids.ensures.items ∙ ap (ordered nat_cmp) list in
-    subst (λ (es : List (ℕ × List ℕ)). IfOk c.sorted_change.result (λ (x : BatchChange). x.base ≡ es)) (ap (λ (ids : List ℕ). change_in b layers ids 0) sorted ∙ change_sorted b (plan_layered plan) layers batch 0) c.sorted_change.ensures.base
+    ap (λ (ids : List ℕ). change_in (build_in w) (layers_in w) ids l) sorted ∙ change_sorted (build_in w) (plan_layered plan) (layers_in w) batch l
+
+pub returns-clause-base : goal.returns-clause-base
+returns-clause-base g c = subst (λ (es : List (ℕ × List ℕ)). IfOk c.sorted_change.result (λ (x : BatchChange). x.base ≡ es)) (changes g c 0) c.sorted_change.ensures.base
 
 pub returns-clause-upper : goal.returns-clause-upper
 returns-clause-upper g c =
-    let w = c.args.layers.now in
-    let plan = w.plan.now in
-    let b = build_in w in
-    let layers = layers_in w in
-    let batch = batch_at plan.order.items plan.cap (w.done + 1) in
-    let items : c.in_ok-batch.batch.items ≡ take (c.args.to - c.args.from) (drop c.args.from c.deref.result.now) = search rules in
-    let list : c.in_ok-batch.batch.items ≡ batch = items ∙ ap (λ (xs : List ℕ). take (c.args.to - c.args.from) (drop c.args.from xs)) c.deref.ensures.value ∙ batch_is plan w.done c.args.from c.args.to c.requires.from c.requires.to in
-    let sorted : c.as_slice.result.now ≡ ordered nat_cmp batch = c.as_slice.ensures.value ∙ c.sort_ids.ensures.items ∙ ap (ordered nat_cmp) list in
-    let each : change_in b layers c.as_slice.result.now ≡ change_in b layers batch = λ i l. (ap (λ (ids : List ℕ). change_in b layers ids l) sorted ∙ change_sorted b (plan_layered plan) layers batch l) i in
-    subst (λ (f : ℕ → List (ℕ × List ℕ)). IfOk c.sorted_change.result (λ (x : BatchChange). x.upper.items ≡ map f (range_with_len 1 (top_of plan.levels.items)))) each c.sorted_change.ensures.upper
+    subst (λ (f : ℕ → List (ℕ × List ℕ)). IfOk c.sorted_change.result (λ (x : BatchChange). x.upper.items ≡ map f (range_with_len 1 (top_of c.args.layers.now.plan.now.levels.items)))) (λ i l. changes g c l i) c.sorted_change.ensures.upper

@@ -1,4 +1,5 @@
-use Rattle.std.proofs.Common.{◌≡◌, ◌+◌, ◌-◌, ◌*◌, ◌≤◌, ◌∙◌, ◌++◌, ℕ, length, replicate, ap, arith}
+use Rattle.std.proofs.Common.{◌≡◌, ◌+◌, ◌-◌, ◌*◌, ◌<◌, ◌≤◌, ◌∙◌, ◌++◌, ℕ, length, replicate, sym, ap, arith}
+use Rattle.hnsw_build.specs.declared.layers.Layers.{Layers}
 use Rattle.hnsw_build.specs.Layering.{level_in, top_of}
 use Rattle.hnsw_build.specs.Grown.{build_in}
 use Rattle.hnsw_build.proofs.PlanFacts.{plan_layered}
@@ -13,26 +14,23 @@ rest_words level top size le =
     spread : (level more size : ℕ) → (level + more + 1) * size ≡ (level + 1) * size + more * size
     spread level more size = omega arith
 
-pub split_at_mut-rows-requires : goal.split_at_mut-rows-requires
-split_at_mut-rows-requires c =
-    let w = c.args.layers.now in
+-- a block is the rows of its point and what is behind them
+behind : (w : Layers) (p len words : ℕ) → p < length w.plan.now.points.now.vectors → len ≡ (level_in w.plan.now.levels.items p + 1) * (w.plan.now.settings.degree + 1) → words ≡ (top_of w.plan.now.levels.items + 1) * (w.plan.now.settings.degree + 1)
+    → words ≡ len + (top_of w.plan.now.levels.items - level_in w.plan.now.levels.items p) * (w.plan.now.settings.degree + 1)
+behind w p len words at rows all =
     let levels = w.plan.now.levels.items in
-    let most = point_level (build_in w) (plan_layered w.plan.now) c.args.p c.requires.p in
-    let size = w.plan.now.settings.degree + 1 in
-    let all = rest_words (level_in levels c.args.p) (top_of levels) size most in
-    let len = c.rows_len-len.ensures in
-    let out = c.requires.out in
-    omega (arith, all, len, out)
+    let most = point_level (build_in w) (plan_layered w.plan.now) p at in
+    let split = rest_words (level_in levels p) (top_of levels) (w.plan.now.settings.degree + 1) most in
+    all ∙ split ∙ ap (λ m. m + (top_of levels - level_in levels p) * (w.plan.now.settings.degree + 1)) (sym rows)
+
+pub split_at_mut-rows-requires : goal.split_at_mut-rows-requires
+split_at_mut-rows-requires c = let left = behind c.args.layers.now c.args.p _ _ c.requires.p c.rows_len-len.ensures c.requires.out in omega (arith, left)
 
 pub returns-clause-out : goal.returns-clause-out
 returns-clause-out c =
     let w = c.args.layers.now in
     let levels = w.plan.now.levels.items in
-    let most = point_level (build_in w) (plan_layered w.plan.now) c.args.p c.requires.p in
-    let size = w.plan.now.settings.degree + 1 in
-    let all = rest_words (level_in levels c.args.p) (top_of levels) size most in
-    let len = c.rows_len-len.ensures in
-    let out = c.requires.out in
+    let left = behind w c.args.p _ _ c.requires.p c.rows_len-len.ensures c.requires.out in
     let back = c.split_at_mut-rows.ensures.back_len in
-    let zeros : length c.split_at_mut-rows.result.1.now ≡ (top_of levels - level_in levels c.args.p) * size = omega (arith, all, len, out, back) in
+    let zeros : length c.split_at_mut-rows.result.1.now ≡ (top_of levels - level_in levels c.args.p) * (w.plan.now.settings.degree + 1) = omega (arith, left, back) in
     (λ i. c.write_rows.ensures.out i ++ (c.clear.ensures ∙ ap (λ k. replicate k 0) zeros) i)
