@@ -18,3 +18,7 @@ pub sum_ones_more : (f : ℕ → ℕ) (k : ℕ) → 1 ≤ k → sum_by f (range_
 sum_ones_more f k some =
     let one : sum_by f (k ∷ []) ≡ f k = sum_by-cons f k [] ∙ omega arith in
     ap (sum_by f) (ones_more k some) ∙ sum_by-append f (range_with_len 1 (k - 1)) (k ∷ []) ∙ ap (λ n. sum_by f (range_with_len 1 (k - 1)) + n) one
+
+-- numbers from 1 to the top have all been gone through where the next is behind the top
+pub ended : (top last next : ℕ) → last ≡ top → 1 ≤ next → (1 ≤ last + 1 → next ≤ last + 1) → last + 1 ≤ next → next - 1 ≡ top
+ended top last next is low within behind = let high = within (omega arith) in omega (arith, is, low, high, behind)

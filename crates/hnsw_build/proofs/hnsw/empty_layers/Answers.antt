@@ -3,7 +3,7 @@ use Rattle.std.specs.List.{range_with_len}
 use Rattle.ann_defs.specs.Ordered.{Ascends}
 use Rattle.hnsw_build.specs.Layering.{top_of, ids_in}
 use Rattle.hnsw_build.proofs.LevelFacts.{ids_ascend}
-use Rattle.hnsw_build.proofs.Ranges.{map_ones_more}
+use Rattle.hnsw_build.proofs.Ranges.{map_ones_more, ended}
 use Rattle.hnsw_build.proofs.NewLayers.{ids_some, layer_fits, first_layer, bare_entry, upper_first}
 use Rattle.hnsw_build.proofs.hnsw.empty_layers.Goals as goal
 
@@ -50,11 +50,5 @@ loop-layer-preserved c =
 pub returns : goal.returns
 returns c =
     let plan = c.args.plan.now in
-    let levels = plan.levels.items in
-    let top = c.top-layer-end.ensures.value in
-    let end = c.loop-layer.auto.layer-end in
-    let low = c.loop-layer.auto.layer in
-    let last = c.loop-layer-test.false in
-    let high : c.loop-layer.layer ≤ c.top-layer-end.result + 1 = end (omega arith) in
-    let at : c.loop-layer.layer - 1 ≡ top_of levels = omega (arith, top, high, low, last) in
+    let at = ended (top_of plan.levels.items) c.top-layer-end.result c.loop-layer.layer c.top-layer-end.ensures.value c.loop-layer.auto.layer c.loop-layer.auto.layer-end c.loop-layer-test.false in
     c.loop-layer.invariant ∙ ap (λ n. map (first_layer plan) (range_with_len 1 n)) at ∙ upper_first plan

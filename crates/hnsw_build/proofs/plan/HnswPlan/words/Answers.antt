@@ -3,7 +3,7 @@ use Rattle.std.specs.List.{range_with_len, sum_by}
 use Rattle.std.proofs.Math.Nat.{mul-le-mul_right}
 use Rattle.graph_rows.specs.WellFormed.{layer_words}
 use Rattle.hnsw_build.specs.Layering.{ids_in, top_of}
-use Rattle.hnsw_build.proofs.Ranges.{sum_ones_more}
+use Rattle.hnsw_build.proofs.Ranges.{sum_ones_more, ended}
 use Rattle.hnsw_build.proofs.plan.HnswPlan.words.Goals as goal
 
 pub loop-layer-preserved : goal.loop-layer-preserved
@@ -34,13 +34,7 @@ loop-layer-preserved c =
 
 pub returns : goal.returns
 returns c =
-    let plan = c.args.self.now in
-    let levels = plan.levels.items in
-    let d = plan.settings.degree in
-    let top = c.top-layer-end.ensures.value in
-    let end = c.loop-layer.auto.layer-end in
-    let low = c.loop-layer.auto.layer in
-    let last = c.loop-layer-test.false in
-    let high : c.loop-layer.layer ≤ c.top-layer-end.result + 1 = end (omega arith) in
-    let at : c.loop-layer.layer - 1 ≡ top_of levels = omega (arith, top, high, low, last) in
+    let levels = c.args.self.now.levels.items in
+    let d = c.args.self.now.settings.degree in
+    let at = ended (top_of levels) c.top-layer-end.result c.loop-layer.layer c.top-layer-end.ensures.value c.loop-layer.auto.layer c.loop-layer.auto.layer-end c.loop-layer-test.false in
     c.loop-layer.invariant.value ∙ ap (λ n. layer_words (length levels) (d + d) + sum_by (λ l. layer_words (length (ids_in levels l)) d) (range_with_len 1 n)) at
