@@ -37,9 +37,6 @@ module _ (points : List (List ℕ)) (s : HnswSettings) (levels : List ℕ) (is :
   abbrev n : ℕ
   n = length points
 
-  abbrev top : ℕ
-  top = top_of levels
-
   abbrev layers : List (List (List ℕ))
   layers = layers_at points s levels k
 
@@ -76,15 +73,15 @@ module _ (points : List (List ℕ)) (s : HnswSettings) (levels : List ℕ) (is :
       zero_plus j = omega arith
 
   -- all layers as a file tells them
-  pub layers_entries : (base : Flat) (upper : List Layered) → base ≡ base_at points s levels k → upper ≡ upper_at points s levels k → enumerate_from 0 base.rows ∷ map (λ (l : Layered). l.entries) upper ≡ map entries (range_with_len 0 (top + 1))
+  pub layers_entries : (base : Flat) (upper : List Layered) → base ≡ base_at points s levels k → upper ≡ upper_at points s levels k → enumerate_from 0 base.rows ∷ map (λ (l : Layered). l.entries) upper ≡ map entries (range_with_len 0 (top_of levels + 1))
   layers_entries base upper base_is upper_is =
-      let more : suc top ≡ top + 1 = omega arith in
+      let more : suc (top_of levels) ≡ top_of levels + 1 = omega arith in
       (λ i. enumerate_from 0 (base_is i).rows ∷ map (λ (l : Layered). l.entries) (upper_is i))
-      ∙ (λ i. base_entries i ∷ map-map (λ (l : Layered). l.entries) (layer_in points s levels is k) (range_with_len 1 top) i)
+      ∙ (λ i. base_entries i ∷ map-map (λ (l : Layered). l.entries) (layer_in points s levels is k) (range_with_len 1 (top_of levels)) i)
       ∙ ap (λ m. map entries (range_with_len 0 m)) more
 
   -- the rows of a layer are right
-  pub entries_right : (l : ℕ) → l ≤ top → AreRowsOf (is_in levels l) (bound_of s.degree l) (entries l)
+  pub entries_right : (l : ℕ) → l ≤ top_of levels → AreRowsOf (is_in levels l) (bound_of s.degree l) (entries l)
   entries_right l le = all_from_has (λ (e : ℕ × List ℕ). IsRowIn (is_in levels l) (bound_of s.degree l) e.0 e.1) (entries l) (λ e h.
       let from = has-map (entry_of_row (row_of_layer layers l)) (ids_in levels l) e h in
       let u = from.0 in
@@ -99,17 +96,17 @@ module _ (points : List (List ℕ)) (s : HnswSettings) (levels : List ℕ) (is :
   upper_bound : (l : ℕ) → 1 ≤ l → bound_of s.degree l ≡ s.degree
   upper_bound l some = ap (λ t. cond t (s.degree + s.degree) s.degree) (ne_eqb l 0 (omega arith))
 
-  start_there : (l : ℕ) → l ≤ top → has (layer_ids (entries l)) (start_of points s levels) ≡ true
+  start_there : (l : ℕ) → l ≤ top_of levels → has (layer_ids (entries l)) (start_of points s levels) ≡ true
   start_there l le = entries_held points s levels is k l (start_of points s levels) ∙ start_held (build_of points s levels) is l le
 
-  some_entries : (l : ℕ) → l ≤ top → 1 ≤ length (entries l)
+  some_entries : (l : ℕ) → l ≤ top_of levels → 1 ≤ length (entries l)
   some_entries l le =
       let ids = has_some (layer_ids (entries l)) (start_of points s levels) (has_true (layer_ids (entries l)) (start_of points s levels) (start_there l le)) in
       let same = length-map (entries l) (λ (e : ℕ × List ℕ). e.0) in
       omega (arith, ids, same)
 
   -- a layer over another
-  further : (l : ℕ) (below : ℕ → Bool) → 1 ≤ l → l ≤ top → ((v : ℕ) → is_in levels l v ≡ true → below v ≡ true) → IsFurtherLayer (start_of points s levels) s.degree below (entries l)
+  further : (l : ℕ) (below : ℕ → Bool) → 1 ≤ l → l ≤ top_of levels → ((v : ℕ) → is_in levels l v ≡ true → below v ≡ true) → IsFurtherLayer (start_of points s levels) s.degree below (entries l)
   further l below some le under = record {
     some = some_entries l le;
     ascend = subst Ascends (sym (ids_again (row_of_layer layers l) (ids_in levels l))) (ids_ascend levels l);
@@ -118,7 +115,7 @@ module _ (points : List (List ℕ)) (s : HnswSettings) (levels : List ℕ) (is :
     rows = subst (λ (h : ℕ → Bool). AreRowsOf h s.degree (entries l)) (sym (held_path l)) (subst (λ m. AreRowsOf (is_in levels l) m (entries l)) (upper_bound l some) (entries_right l le));
   }
 
-  pub all_further : (l count : ℕ) (below : ℕ → Bool) → 1 ≤ l → l + count ≤ top + 1 → ((v : ℕ) → is_in levels l v ≡ true → below v ≡ true) → AreFurtherLayers (start_of points s levels) s.degree below (map entries (range_with_len l count))
+  pub all_further : (l count : ℕ) (below : ℕ → Bool) → 1 ≤ l → l + count ≤ top_of levels + 1 → ((v : ℕ) → is_in levels l v ≡ true → below v ≡ true) → AreFurtherLayers (start_of points s levels) s.degree below (map entries (range_with_len l count))
   all_further l zero below some le under = tt
   all_further l (suc count) below some le under = (
     further l below some (omega arith) under,

@@ -28,14 +28,8 @@ pub change_sorted : (b : LayeredBuild) (is : IsLayered b) (layers : List (List (
 change_sorted b is layers batch l = ap (λ (new : ℕ → List ℕ). differing (row_of_layer layers l) new (range_with_len 0 (length b.points))) (next_sorted b is layers batch l)
 
 module _ (points : List (List ℕ)) (s : HnswSettings) (levels : List ℕ) (is : IsLayered (build_of points s levels)) (k : ℕ) where
-  abbrev n : ℕ
-  n = length points
-
   abbrev b : LayeredBuild
   b = build_of points s levels
-
-  abbrev top : ℕ
-  top = top_of levels
 
   abbrev layers : List (List (List ℕ))
   layers = layers_at points s levels k
@@ -52,7 +46,7 @@ module _ (points : List (List ℕ)) (s : HnswSettings) (levels : List ℕ) (is :
   next : suc k ≡ k + 1
   next = omega arith
 
-  short : (l u : ℕ) → l ≤ top → u < n → length (new l u) ≤ bound_of s.degree l
+  short : (l u : ℕ) → l ≤ top_of levels → u < length points → length (new l u) ≤ bound_of s.degree l
   short l u le at = (next_good b is layers before l le batch u at).short
 
   -- layer 0
@@ -60,7 +54,7 @@ module _ (points : List (List ℕ)) (s : HnswSettings) (levels : List ℕ) (is :
   base_next =
       let rows = get_or layers 0 [] in
       let width = s.degree + s.degree in
-      let count : length rows ≡ n = before.count 0 (omega arith) in
+      let count : length rows ≡ length points = before.count 0 (omega arith) in
       ap (λ m. put_all (flat_of width rows) (differing (row_in rows) (new 0) (range_with_len 0 m))) (sym count)
       ∙ put_differing rows (new 0) width (λ u at. short 0 u (omega arith) (subst (λ m. u < m) count at))
       ∙ ap (λ m. flat_of width (map (new 0) (range_with_len 0 m))) count
@@ -68,13 +62,13 @@ module _ (points : List (List ℕ)) (s : HnswSettings) (levels : List ℕ) (is :
       ∙ ap (base_at points s levels) next
 
   -- a layer above it
-  pub layer_after : (l : ℕ) → 1 ≤ l → l ≤ top → put_all_in_layer (layer_in points s levels is k l) (change_in b layers batch l) ≡ layer_in points s levels is (k + 1) l
+  pub layer_after : (l : ℕ) → 1 ≤ l → l ≤ top_of levels → put_all_in_layer (layer_in points s levels is k l) (change_in b layers batch l) ≡ layer_in points s levels is (k + 1) l
   layer_after l some le =
       let entries = entries_at points s levels k l in
       let same : layer_ids entries ≡ ids_in levels l = ids_again (row_of_layer layers l) (ids_in levels l) in
       let bound : bound_of s.degree l ≡ s.degree = upper_bound s.degree l some in
       let held : (u : ℕ) → has (layer_ids entries) u ≡ is_in levels l u = entries_held points s levels is k l in
-      put_differing_in_layer n s.degree (row_of_layer layers l) (new l) entries
+      put_differing_in_layer (length points) s.degree (row_of_layer layers l) (new l) entries
       (subst Ascends (sym same) (ids_ascend levels l))
       (λ u h. held_point b is l u (sym (held u) ∙ h))
       (λ u _. entries_row points s levels is k l u le)
@@ -87,15 +81,15 @@ module _ (points : List (List ℕ)) (s : HnswSettings) (levels : List ℕ) (is :
       upper_bound degree l some = ap (λ t. cond t (degree + degree) degree) (ne_eqb l 0 (omega arith))
 
   -- and all of them
-  pub upper_next : (upper after : List Layered) (changes : List (List (ℕ × List ℕ))) → upper ≡ upper_at points s levels k → changes ≡ map (change_in b layers batch) (range_with_len 1 top) → length after ≡ length upper
+  pub upper_next : (upper after : List Layered) (changes : List (List (ℕ × List ℕ))) → upper ≡ upper_at points s levels k → changes ≡ map (change_in b layers batch) (range_with_len 1 (top_of levels)) → length after ≡ length upper
       → ((j : ℕ) (d : Layered) → j < length upper → get_or after j d ≡ put_all_in_layer (get_or upper j d) (get_or changes j [])) → after ≡ upper_at points s levels (k + 1)
   upper_next upper after changes old put same each =
-      let many : length upper ≡ top = ap (λ (ls : List Layered). length ls) old ∙ upper_count points s levels is k in
+      let many : length upper ≡ top_of levels = ap (λ (ls : List Layered). length ls) old ∙ upper_count points s levels is k in
       same_lists after (upper_at points s levels (k + 1)) (same ∙ many ∙ sym (upper_count points s levels is (k + 1)))
       (λ j d lt.
-      let at : j < top = subst (λ m. j < m) (same ∙ many) lt in
+      let at : j < top_of levels = subst (λ m. j < m) (same ∙ many) lt in
       each j d (subst (λ m. j < m) same lt)
       ∙ (λ i. put_all_in_layer (get_or (old i) j d) (get_or (put i) j []))
-      ∙ (λ i. put_all_in_layer (get_or-map-range_with_len (layer_in points s levels is k) 1 top j (suc j) d at (omega arith) i) (get_or-map-range_with_len (change_in b layers batch) 1 top j (suc j) [] at (omega arith) i))
+      ∙ (λ i. put_all_in_layer (get_or-map-range_with_len (layer_in points s levels is k) 1 (top_of levels) j (suc j) d at (omega arith) i) (get_or-map-range_with_len (change_in b layers batch) 1 (top_of levels) j (suc j) [] at (omega arith) i))
       ∙ layer_after (suc j) (omega arith) (omega arith)
-      ∙ sym (get_or-map-range_with_len (layer_in points s levels is (k + 1)) 1 top j (suc j) d at (omega arith)))
+      ∙ sym (get_or-map-range_with_len (layer_in points s levels is (k + 1)) 1 (top_of levels) j (suc j) d at (omega arith)))
