@@ -1,6 +1,7 @@
-use Rattle.std.proofs.Common.{◌≡◌, ◌∙◌, ◌+◌, ◌++◌, ◌<◌, [], ℕ, List, length, get_or, map, take, drop, sym, ap, subst}
+use Rattle.std.proofs.Common.{◌≡◌, ◌∙◌, ◌+◌, ◌<◌, [], ℕ, List, length, get_or, map, sym, ap, subst}
 use Rattle.std.specs.List.{range_with_len}
-use Rattle.std.proofs.lemmas.List.{take_at}
+use Rattle.std.specs.Vec.{with_items}
+use Rattle.std.proofs.lemmas.List.{with_items_is}
 use Rattle.batch_insert.specs.Changes.{put_all_in_layer}
 use Rattle.beam_search.specs.Room.{Room}
 use Rattle.graph_rows.specs.Layers.{Layered}
@@ -13,9 +14,6 @@ use Rattle.hnsw_build.proofs.PlanFacts.{plan_layered, plan_batch}
 use Rattle.hnsw_build.proofs.NextBatch.{stepped}
 use Rattle.hnsw_build.proofs.hnsw.Hnsw.step.Goals as goal
 
-kept : {X : Type 0} (len : ℕ) (items new : List X) → length new ≡ len → take len (new ++ drop (length new) items) ≡ new
-kept len items new e = take_at new (drop (length new) items) len e
-
 pub invariant_of-self-2 : goal.invariant_of-self-2
 invariant_of-self-2 g c =
     let v = c.self.inside in
@@ -27,8 +25,8 @@ invariant_of-self-2 g c =
     let posts : List (Post Room) = c.batch_change.new.posts in
     let upper : List Layered = c.put_into.new.upper in
     let long : length upper ≡ length v.upper.items = c.put_into.auto.upper ∙ ap (λ (ls : List Layered). length ls) c.as_mut_slice-2.ensures.value in
-    let whole_upper = kept v.upper.len v.upper.items upper (c.put_into.auto.upper ∙ c.as_mut_slice-2.ensures.len) in
-    let whole_posts = kept v.posts.len v.posts.items posts (c.batch_change.auto.posts ∙ c.as_mut_slice.ensures.len) in
+    let whole_upper = with_items_is v.upper upper (c.put_into.auto.upper ∙ c.as_mut_slice-2.ensures.len) in
+    let whole_posts = with_items_is v.posts posts (c.batch_change.auto.posts ∙ c.as_mut_slice.ensures.len) in
     let count : length posts ≡ length v.posts.items = c.batch_change.auto.posts ∙ ap (λ (ps : List (Post Room)). length ps) c.as_mut_slice.ensures.value in
     let b = build_of points s levels in
     let layers = layers_at points s levels v.batch in
@@ -38,5 +36,5 @@ invariant_of-self-2 g c =
     let built = stepped points s levels (plan_layered plan) v.batch v.base c.put_into.new.base v.upper.items upper v.batches next.new.self v.next next.result v.posts.items posts _ c.in_ok-change.change.base c.in_ok-change.change.upper.items c.self.invariant c.in-Some.is base others c.put_into.ensures.base long each
     (record { counted = next.ensures.counted; bounds = next.ensures.bounds; fits = next.ensures.some; given = next.ensures.given; same = next.ensures.same })
     c.in_ok-change.ensures.serve count in
-    subst (λ (ls : List Layered). IsBuilt points s levels (v.batch + 1) c.put_into.new.base ls next.new.self next.result (take v.posts.len (posts ++ drop (length posts) v.posts.items))) (sym whole_upper)
+    subst (λ (ls : List Layered). IsBuilt points s levels (v.batch + 1) c.put_into.new.base ls next.new.self next.result (with_items v.posts posts).items) (sym whole_upper)
     (subst (λ (ps : List (Post Room)). IsBuilt points s levels (v.batch + 1) c.put_into.new.base upper next.new.self next.result ps) (sym whole_posts) built)
