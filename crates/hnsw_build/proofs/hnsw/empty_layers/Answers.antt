@@ -1,4 +1,4 @@
-use Rattle.std.proofs.Common.{◌≡◌, ◌+◌, ◌-◌, ◌*◌, ◌≤◌, ◌∙◌, ◌++◌, ◌∷◌, [], ℕ, List, map, length, sym, ap, subst, arith}
+use Rattle.std.proofs.Common.{◌≡◌, ◌+◌, ◌*◌, ◌≤◌, ◌∙◌, ◌++◌, ◌∷◌, [], ℕ, List, map, length, sym, ap, subst, arith}
 use Rattle.std.specs.List.{range_with_len}
 use Rattle.ann_defs.specs.Ordered.{Ascends}
 use Rattle.hnsw_build.specs.Layering.{top_of, ids_in}
