@@ -1,18 +1,17 @@
 //! What a batch changes in all layers.
 ghost use Rattle.std.specs.Prelude.{◌≡◌, ◌+◌, ◌<◌, ◌≤◌, ℕ, [], IfOk, length, map, slice_index_or, vec_len};
 ghost use Rattle.std.specs.List.{All, range_with_len};
-ghost use Rattle.std.specs.Ordering.{nat_cmp};
 ghost use Rattle.ann_defs.specs.BatchInsert.{bound_at, batch_at};
-ghost use Rattle.ann_defs.specs.Ordered.{Ascends, ordered};
+ghost use Rattle.ann_defs.specs.Ordered.{Ascends};
 ghost use Rattle.batch_insert.specs.Changes.{put_all, put_all_in_layer};
 ghost use Rattle.graph_rows.specs.Layers.{Layered};
 ghost use Rattle.steal_pool.specs.Work.{AllServe};
 ghost use Rattle.hnsw_build.specs.Layering.{top_of};
-ghost use Rattle.hnsw_build.specs.HnswBuilds.{order_of, batch_cap, batches_of};
 ghost use Rattle.hnsw_build.specs.Grown.{build_in, layers_in, ServesIn};
-ghost use Rattle.hnsw_build.specs.Wanted.{change_in, rows_of_point};
+ghost use Rattle.hnsw_build.specs.Wanted.{change_in};
 
 use crate::blocks::new_rows;
+use crate::fresh_batch::FreshBatch;
 use crate::layer_change::layer_change;
 use crate::layers::Layers;
 use ann_shelf::{Gate, NoMemory};
@@ -92,19 +91,13 @@ fn sorted_change<R: Threads + Sync, P: Rounds, G: Gate + Sync>(
     ensures workers { P.count pool.new ≡ P.count pool.old }
 {
     let rows = new_rows(rt, alloc, pool, layers, batch, posts, gate)?;
-    let base = layer_change(
-        rt,
-        alloc,
-        pool,
+    let fresh = FreshBatch {
         layers,
-        0,
-        layers.base,
-        batch,
-        rows.as_slice(),
-        posts,
-        gate,
-    )?;
-    let upper = upper_changes(rt, alloc, pool, layers, batch, rows.as_slice(), posts, gate)?;
+        ids: batch,
+        rows: rows.as_slice(),
+    };
+    let base = layer_change(rt, alloc, pool, &fresh, 0, layers.base, posts, gate)?;
+    let upper = upper_changes(rt, alloc, pool, &fresh, posts, gate)?;
     Ok(BatchChange { base, upper })
 }
 
@@ -113,33 +106,25 @@ fn upper_changes<R: Threads + Sync, P: Rounds, G: Gate + Sync>(
     rt: &R,
     alloc: Global,
     pool: &mut P,
-    layers: &Layers,
-    batch: &[u32],
-    rows: &[Vec<u32>],
+    batch: &FreshBatch,
     posts: &mut [Post<Scratch>],
     gate: &G,
 ) -> Result<Vec<ChangedRows>, NoMemory>
-    requires inside { All (λ p. p < length layers.now.plan.now.points.now.vectors) batch.now }
-    requires ascend { Ascends batch.now }
-    requires few { length batch.now ≤ length layers.now.plan.now.points.now.vectors }
-    requires rows { map (λ y. y.items) rows.now ≡ map (rows_of_point (build_in layers.now) (layers_in layers.now)) batch.now }
     requires posts { length posts.old ≡ P.count pool.old }
-    requires serve { AllServe (ServesIn layers.now) posts.old }
-    ensures changes { IfOk result (λ v. v.items ≡ map (change_in (build_in layers.now) (layers_in layers.now) batch.now) (range_with_len 1 (top_of layers.now.plan.now.levels.items))) }
-    ensures serve { AllServe (ServesIn layers.now) posts.new }
+    requires serve { AllServe (ServesIn batch.now.layers.now) posts.old }
+    ensures changes { IfOk result (λ v. v.items ≡ map (change_in (build_in batch.now.layers.now) (layers_in batch.now.layers.now) batch.now.ids.now) (range_with_len 1 (top_of batch.now.layers.now.plan.now.levels.items))) }
+    ensures serve { AllServe (ServesIn batch.now.layers.now) posts.new }
     ensures workers { P.count pool.new ≡ P.count pool.old }
 {
-    let mut changes = Vec::with_capacity(alloc, layers.upper.len())?;
-    for layer in 1..layers.plan.top() + 1 {
+    let mut changes = Vec::with_capacity(alloc, batch.layers.upper.len())?;
+    for layer in 1..batch.layers.plan.top() + 1 {
         let change = layer_change(
             rt,
             alloc,
             pool,
-            layers,
-            layer,
-            &layers.upper[layer as usize - 1],
             batch,
-            rows,
+            layer,
+            &batch.layers.upper[layer as usize - 1],
             posts,
             gate,
         )?;

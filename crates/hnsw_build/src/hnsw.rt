@@ -3,7 +3,7 @@ ghost use Rattle.std.specs.Prelude.{◌≡◌, ◌+◌, ◌≤◌, IfOk, OnErr, 
 ghost use Rattle.ann_defs.specs.declared.limits.TheConstants.{MAX_WORDS, MAX_WORKERS};
 ghost use Rattle.graph_rows.specs.View.{contents};
 ghost use Rattle.graph_rows.specs.WellFormed.{IsWellFormed};
-ghost use Rattle.hnsw_build.specs.Layering.{words_in, top_of};
+ghost use Rattle.hnsw_build.specs.Layering.{words_in};
 ghost use Rattle.hnsw_build.specs.HnswBuilds.{batches_of, upper_at};
 ghost use Rattle.hnsw_build.specs.HnswIndex.{hnsw_index};
 

@@ -1,16 +1,14 @@
 //! What a batch changes in a layer.
-ghost use Rattle.std.specs.Prelude.{◌≡◌, ◌+◌, ◌<◌, ◌≤◌, ℕ, IfOk, length, map};
-ghost use Rattle.std.specs.List.{All};
+ghost use Rattle.std.specs.Prelude.{◌≡◌, ◌≤◌, ℕ, IfOk, length};
 ghost use Rattle.ann_defs.specs.declared.limits.TheConstants.{MAX_DEGREE};
-ghost use Rattle.ann_defs.specs.Ordered.{Ascends};
 ghost use Rattle.steal_pool.specs.Work.{AllServe};
 ghost use Rattle.hnsw_build.specs.Layering.{top_of, is_in};
 ghost use Rattle.hnsw_build.specs.LayeredInsert.{row_of_layer, bound_of};
 ghost use Rattle.hnsw_build.specs.Grown.{build_in, layers_in, ServesIn};
-ghost use Rattle.hnsw_build.specs.Wanted.{change_in, rows_of_point};
+ghost use Rattle.hnsw_build.specs.Wanted.{change_in};
 
+use crate::fresh_batch::FreshBatch;
 use crate::layer_rows::{batch_blocks, batch_ids};
-use crate::layers::Layers;
 use crate::merges::Merges;
 use ann_shelf::{Gate, NoMemory};
 use batch_insert::{ChangedRows, FreshRows, changed_rows};
@@ -22,41 +20,35 @@ use steal_pool::{Post, Rounds};
 
 /// The rows of one layer that a batch changes: its new rows there, and the merged rows of their targets, in one round.
 ///
-/// `old` are the rows of the layer. `rows` are the new rows of each point of the batch.
+/// `old` are the rows of the layer.
 pub(crate) fn layer_change<R: Threads + Sync, P: Rounds, G: Gate + Sync, O: Rows + Sync>(
     rt: &R,
     alloc: Global,
     pool: &mut P,
-    layers: &Layers,
+    batch: &FreshBatch,
     layer: u8,
     old: &O,
-    batch: &[u32],
-    rows: &[Vec<u32>],
     posts: &mut [Post<Scratch>],
     gate: &G,
 ) -> Result<ChangedRows, NoMemory>
-    requires layer { layer ≤ top_of layers.now.plan.now.levels.items }
-    requires held { (u : ℕ) → O.held old.now u ≡ is_in layers.now.plan.now.levels.items layer u }
-    requires old { (u : ℕ) → O.row_of old.now u ≡ row_of_layer (layers_in layers.now) layer u }
-    requires inside { All (λ p. p < length layers.now.plan.now.points.now.vectors) batch.now }
-    requires ascend { Ascends batch.now }
-    requires few { length batch.now ≤ length layers.now.plan.now.points.now.vectors }
-    requires rows { map (λ y. y.items) rows.now ≡ map (rows_of_point (build_in layers.now) (layers_in layers.now)) batch.now }
+    requires layer { layer ≤ top_of batch.now.layers.now.plan.now.levels.items }
+    requires held { (u : ℕ) → O.held old.now u ≡ is_in batch.now.layers.now.plan.now.levels.items layer u }
+    requires old { (u : ℕ) → O.row_of old.now u ≡ row_of_layer (layers_in batch.now.layers.now) layer u }
     requires posts { length posts.old ≡ P.count pool.old }
-    requires serve { AllServe (ServesIn layers.now) posts.old }
-    ensures change { IfOk result (λ c. c ≡ change_in (build_in layers.now) (layers_in layers.now) batch.now layer) }
-    ensures serve { AllServe (ServesIn layers.now) posts.new }
+    requires serve { AllServe (ServesIn batch.now.layers.now) posts.old }
+    ensures change { IfOk result (λ c. c ≡ change_in (build_in batch.now.layers.now) (layers_in batch.now.layers.now) batch.now.ids.now layer) }
+    ensures serve { AllServe (ServesIn batch.now.layers.now) posts.new }
     ensures workers { P.count pool.new ≡ P.count pool.old }
 {
-    let ids = batch_ids(alloc, layers, batch, layer)?;
-    let blocks = batch_blocks(alloc, layers, batch, rows, layer)?;
+    let ids = batch_ids(alloc, batch, layer)?;
+    let blocks = batch_blocks(alloc, batch, layer)?;
     let fresh = FreshRows {
         ids: ids.as_slice(),
         blocks: &blocks,
     };
     let merging = Merges {
-        plan: layers.plan,
-        bound: row_bound(layers.plan.settings.degree, layer),
+        plan: batch.layers.plan,
+        bound: row_bound(batch.layers.plan.settings.degree, layer),
     };
     changed_rows(
         rt,

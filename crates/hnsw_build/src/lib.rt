@@ -8,6 +8,7 @@
 mod batch;
 mod blocks;
 mod entry;
+mod fresh_batch;
 mod hnsw;
 mod laws;
 mod layer_change;

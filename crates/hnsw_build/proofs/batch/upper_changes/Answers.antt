@@ -5,9 +5,9 @@ use Rattle.hnsw_build.proofs.Ranges.{map_ones_more}
 use Rattle.hnsw_build.proofs.LayersFacts.{upper_len, upper_held_is, upper_row_is}
 use Rattle.hnsw_build.proofs.batch.upper_changes.Goals as goal
 
-pub bounds-layers-layer : goal.bounds-layers-layer
-bounds-layers-layer g c =
-    let many = upper_len c.args.layers.now in
+pub bounds-batch-layer : goal.bounds-batch-layer
+bounds-batch-layer g c =
+    let many = upper_len c.args.batch.now.layers.now in
     let top = c.top-layer-end.ensures.value in
     let at = c.loop-layer-test.true in
     let low = c.loop-layer.auto.layer in
@@ -17,18 +17,18 @@ pub layer_change-requires-clause-held : goal.layer_change-requires-clause-held
 layer_change-requires-clause-held g c κs within =
     let top = c.top-layer-end.ensures.value in
     let at = c.loop-layer-test.true in
-    λ u. ap (λ (h : ℕ → Bool). h u) (upper_held_is c.args.layers.now c.loop-layer.layer c.loop-layer.auto.layer (omega (arith, top, at)) c.index-layers-layer.result)
+    λ u. ap (λ (h : ℕ → Bool). h u) (upper_held_is c.args.batch.now.layers.now c.loop-layer.layer c.loop-layer.auto.layer (omega (arith, top, at)) c.index-batch-layer.result)
 
 pub layer_change-requires-clause-old : goal.layer_change-requires-clause-old
 layer_change-requires-clause-old g c κs within =
     let top = c.top-layer-end.ensures.value in
     let at = c.loop-layer-test.true in
-    λ u. ap (λ (r : ℕ → List ℕ). r u) (upper_row_is c.args.layers.now c.loop-layer.layer c.loop-layer.auto.layer (omega (arith, top, at)) c.index-layers-layer.result)
+    λ u. ap (λ (r : ℕ → List ℕ). r u) (upper_row_is c.args.batch.now.layers.now c.loop-layer.layer c.loop-layer.auto.layer (omega (arith, top, at)) c.index-batch-layer.result)
 
 pub loop-layer-preserved : goal.loop-layer-preserved
 loop-layer-preserved g c =
-    let w = c.args.layers.now in
-    let f : ℕ → List (ℕ × List ℕ) = change_in (build_in w) (layers_in w) c.args.batch.now in
+    let w = c.args.batch.now.layers.now in
+    let f : ℕ → List (ℕ × List ℕ) = change_in (build_in w) (layers_in w) c.args.batch.now.ids.now in
     record {
       changes =
           c.in_ok-push.ensures.items

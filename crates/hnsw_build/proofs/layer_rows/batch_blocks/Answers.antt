@@ -14,27 +14,27 @@ use Rattle.hnsw_build.proofs.layer_rows.batch_blocks.Goals.{then-index-layer+in_
 
 pub part_of-requires : goal.part_of-requires
 part_of-requires c =
-    let w = c.args.layers.now in
+    let w = c.args.batch.now.layers.now in
     let levels = w.plan.now.levels.items in
-    let batch = c.args.batch.now in
+    let batch = c.args.batch.now.ids.now in
     let i = c.loop-i.i in
     let p = get_or batch i 0 in
-    let at : p < length levels = let below = c.requires.inside i 0 c.loop-i-test.true in let all = w.plan.now.levelled in omega (arith, below, all) in
+    let at : p < length levels = let below = c.args.batch.now.inside i 0 c.loop-i-test.true in let all = w.plan.now.levelled in omega (arith, below, all) in
     let level : c.index.result.now ≡ level_in levels p = c.index.ensures ∙ get_or_default levels p c.index.result.now 0 at in
-    let row = c.as_slice.ensures.value ∙ row_of_vec (rows_of_point (build_in w) (layers_in w)) c.args.rows.now batch i c.index-rows-i.result c.requires.rows c.loop-i-test.true c.index-rows-i.is in
+    let row = c.as_slice.ensures.value ∙ sym (ap items_of c.index-batch-i.is) ∙ row_of_vec (rows_of_point (build_in w) (layers_in w)) c.args.batch.now.rows.now batch i c.index-batch-i.result c.args.batch.now.rows_are c.loop-i-test.true c.index-batch-i.is in
     part_within (build_in w) (layers_in w) p c.args.layer c.as_slice.result.now row (let high = c.if-index-layer.true in omega (arith, high, level))
 
 pub loop-i-preserved : goal.loop-i-preserved
 loop-i-preserved c =
-    let w = c.args.layers.now in
+    let w = c.args.batch.now.layers.now in
     let b = build_in w in
     let layers = layers_in w in
     let levels = w.plan.now.levels.items in
-    let batch = c.args.batch.now in
+    let batch = c.args.batch.now.ids.now in
     let i = c.loop-i.i in
     let l = c.args.layer in
     let p = get_or batch i 0 in
-    let at : p < length levels = let below = c.requires.inside i 0 c.loop-i-test.true in let all = w.plan.now.levelled in omega (arith, below, all) in
+    let at : p < length levels = let below = c.args.batch.now.inside i 0 c.loop-i-test.true in let all = w.plan.now.levelled in omega (arith, below, all) in
     let level : c.index.result.now ≡ level_in levels p = c.index.ensures ∙ get_or_default levels p c.index.result.now 0 at in
     let block_of : ℕ → List ℕ = λ (q : ℕ). padded (w.plan.now.settings.degree + 1) (new_row_in b layers l q) in
     let before = filter (is_in levels l) (take i batch) in
@@ -45,7 +45,7 @@ loop-i-preserved c =
           let high = w2.if-index-layer.true in
           let low : l ≤ level_in levels p = omega (arith, high, level) in
           let held : is_in levels l p ≡ true = level_held levels l p at low in
-          let words = w2.as_slice.ensures.value ∙ row_of_vec (rows_of_point b layers) c.args.rows.now batch i w2.index-rows-i.result c.requires.rows c.loop-i-test.true w2.index-rows-i.is in
+          let words = w2.as_slice.ensures.value ∙ sym (ap items_of w2.index-batch-i.is) ∙ row_of_vec (rows_of_point b layers) c.args.batch.now.rows.now batch i w2.index-batch-i.result c.args.batch.now.rows_are c.loop-i-test.true w2.index-batch-i.is in
           let block : w2.in_ok-block.block.items ≡ block_of p = w2.in_ok-block.ensures ∙ part_is b layers p l w2.as_slice.result.now words low in
           let pushed : c.if-index-layer.blocks.items ≡ c.loop-i.blocks.items ++ w2.in_ok-block.block ∷ [] = ap (λ (v : Vec (Vec ℕ Global) Global). v.items) w2.blocks-is ∙ w2.in_ok-push.ensures.items in
           record {
