@@ -34,9 +34,6 @@ all_pass t [] h = refl
 all_pass t (x ∷ xs) h = ap (λ b. cond b (x ∷ filter t xs) (filter t xs)) (h x (inl refl)) ∙ ap (λ ys. x ∷ ys) (all_pass t xs (λ u m. h u (inr m)))
 
 module _ (points : List (List ℕ)) (s : HnswSettings) (levels : List ℕ) (is : IsLayered (build_of points s levels)) (k : ℕ) where
-  abbrev n : ℕ
-  n = length points
-
   abbrev layers : List (List (List ℕ))
   layers = layers_at points s levels k
 
@@ -46,7 +43,7 @@ module _ (points : List (List ℕ)) (s : HnswSettings) (levels : List ℕ) (is :
   whole : AreGoodLayers (build_of points s levels) layers
   whole = good points s levels is k
 
-  pub base_ids : ids_in levels 0 ≡ range_with_len 0 n
+  pub base_ids : ids_in levels 0 ≡ range_with_len 0 (length points)
   base_ids =
       all_pass (is_in levels 0) (range_with_len 0 (length levels)) (λ u h.
       let within = range_has 0 (length levels) u h in
@@ -57,16 +54,16 @@ module _ (points : List (List ℕ)) (s : HnswSettings) (levels : List ℕ) (is :
   pub base_entries : enumerate_from 0 (get_or layers 0 []) ≡ entries 0
   base_entries =
       let rows = get_or layers 0 [] in
-      let count : length rows ≡ n = whole.count 0 (omega arith) in
-      let listed : entries 0 ≡ map (entry_of_row (row_in rows)) (range_with_len 0 n) = ap (map (entry_of_row (row_in rows))) base_ids in
-      let many : length (map (entry_of_row (row_in rows)) (range_with_len 0 n)) ≡ n = length-map-range_with_len (entry_of_row (row_in rows)) 0 n in
-      same_lists (enumerate_from 0 rows) (map (entry_of_row (row_in rows)) (range_with_len 0 n)) (length-enumerate_from 0 rows ∙ count ∙ sym many)
+      let count : length rows ≡ length points = whole.count 0 (omega arith) in
+      let listed : entries 0 ≡ map (entry_of_row (row_in rows)) (range_with_len 0 (length points)) = ap (map (entry_of_row (row_in rows))) base_ids in
+      let many : length (map (entry_of_row (row_in rows)) (range_with_len 0 (length points))) ≡ length points = length-map-range_with_len (entry_of_row (row_in rows)) 0 (length points) in
+      same_lists (enumerate_from 0 rows) (map (entry_of_row (row_in rows)) (range_with_len 0 (length points))) (length-enumerate_from 0 rows ∙ count ∙ sym many)
       (λ j d lt.
-      let at : j < n = subst (λ m. j < m) (length-enumerate_from 0 rows ∙ count) lt in
+      let at : j < length points = subst (λ m. j < m) (length-enumerate_from 0 rows ∙ count) lt in
       let within : j < length rows = subst (λ m. j < m) (sym count) at in
       get_or-enumerate_from 0 rows j d within
       ∙ (λ i. (zero_plus j i, get_or_default rows j d.1 [] within i))
-      ∙ sym (get_or-map-range_with_len (entry_of_row (row_in rows)) 0 n j j d at (omega arith)))
+      ∙ sym (get_or-map-range_with_len (entry_of_row (row_in rows)) 0 (length points) j j d at (omega arith)))
       ∙ sym listed
     where
       zero_plus : (j : ℕ) → 0 + j ≡ j
