@@ -69,27 +69,29 @@ sorted g c =
     let batch = list ∙ batch_is plan (c.args.k % c.args.pass) c.args.from c.args.to c.requires.from c.requires.to ∙ ap (λ (m : ℕ). batch_at (order_of points plan.settings) (batch_cap points plan.settings) (c.args.k % m + 1)) c.requires.pass in
     c.as_slice.ensures.value ∙ c.sort_ids.ensures.items ∙ ap (ordered nat_cmp) batch
 
+-- pruned by the factor of the definition
+by : (g : _) (c : goal.After-drop-batch-2 g) → build_by c.args.plan.now.points.now.vectors c.args.plan.now.settings c.alpha_after.result ≡ build_at c.args.plan.now.points.now.vectors c.args.plan.now.settings c.args.k
+by g c = by_is c.args.plan.now.points.now.vectors c.args.plan.now.settings c.args.k c.alpha_after.result c.alpha_after.ensures.num c.alpha_after.ensures.den
+
 pub returns-clause-settled : goal.returns-clause-settled
 returns-clause-settled g c =
     let plan = c.args.plan.now in
     let points = plan.points.now.vectors in
     let s = plan.settings in
-    let by = by_is points s c.args.k c.alpha_after.result c.alpha_after.ensures.num c.alpha_after.ensures.den in
     let next : c.args.k + 1 + 1 ≡ suc (c.args.k + 1) = omega arith in
     subst (λ (m : ℕ). AreSettled (at_batch (build_of points s) (pass_of points s) m) (row_in (rows_at points s (c.args.k + 1))) c.rows_changed.new.counts) (sym next)
     (settled_on (build_of points s) s.alpha.some s.alpha.ordered (row_in (rows_at points s (c.args.k + 1))) c.rows_changed.new.counts (pass_of points s) (c.args.k + 1)
     (settled_same (build_at points s c.args.k) _ (row_in (rows_at points s (c.args.k + 1))) c.rows_changed.new.counts (next_row points s (start_below plan) c.args.k (sym (ap length plan.ordered) ∙ plan.whole))
     (subst (λ (f : Flat). AreSettled (build_at points s c.args.k) (last_row_of (build_at points s c.args.k) f.rows (ordered nat_cmp (batch_of points s (start_below plan) c.args.k))) c.rows_changed.new.counts) c.requires.graph
     (subst (λ (ids : List ℕ). AreSettled (build_at points s c.args.k) (last_row_of (build_at points s c.args.k) c.args.graph.now.rows ids) c.rows_changed.new.counts) (sorted g c)
-    (subst (λ (b : Build). AreSettled b (last_row_of b c.args.graph.now.rows c.as_slice.result.now) c.rows_changed.new.counts) by c.in_ok-changed.ensures.settled)))))
+    (subst (λ (b : Build). AreSettled b (last_row_of b c.args.graph.now.rows c.as_slice.result.now) c.rows_changed.new.counts) (by g c) c.in_ok-changed.ensures.settled)))))
 
 pub returns-clause-change : goal.returns-clause-change
 returns-clause-change g c =
     let plan = c.args.plan.now in
     let points = plan.points.now.vectors in
     let s = plan.settings in
-    let by = by_is points s c.args.k c.alpha_after.result c.alpha_after.ensures.num c.alpha_after.ensures.den in
-    made points s c.args.k (start_below plan) c.args.graph.now c.as_slice.result.now c.in_ok-changed.changed c.new.result c.requires.graph (sorted g c) (c.in_ok-changed.ensures.rows ∙ ap (λ (b : Build). differing (row_in c.args.graph.now.rows) (last_row_of b c.args.graph.now.rows c.as_slice.result.now) (range_with_len 0 (length points))) by) c.new.ensures (sym (ap length plan.ordered) ∙ plan.whole)
+    made points s c.args.k (start_below plan) c.args.graph.now c.as_slice.result.now c.in_ok-changed.changed c.new.result c.requires.graph (sorted g c) (c.in_ok-changed.ensures.rows ∙ ap (λ (b : Build). differing (row_in c.args.graph.now.rows) (last_row_of b c.args.graph.now.rows c.as_slice.result.now) (range_with_len 0 (length points))) (by g c)) c.new.ensures (sym (ap length plan.ordered) ∙ plan.whole)
   where
     made : (points : List (List ℕ)) (s : VamanaSettings) (k : ℕ) (starts : start_of points s < length points) (graph : Flat) (batch : List ℕ) (rows : List (ℕ × List ℕ)) (change : Change) → graph ≡ graph_at points s k → batch ≡ ordered nat_cmp (batch_of points s starts k) → rows ≡ differing (row_in graph.rows) (last_row_of (build_at points s k) graph.rows batch) (range_with_len 0 (length points)) → change ≡ record { batch = k + 1; rows = rows } → length (order_of points s) ≡ length points → change ≡ change_at points s k
     made points s k starts graph batch rows change g b e f whole =
