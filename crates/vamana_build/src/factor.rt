@@ -1,5 +1,5 @@
 //! The factor of a batch.
-ghost use Rattle.std.specs.Prelude.{◌≡◌, ◌≤◌};
+ghost use Rattle.std.specs.Prelude.{◌≡◌};
 ghost use Rattle.vamana_build.specs.Builds.{pass_of, build_at};
 
 use crate::plan::Plan;

@@ -1,5 +1,5 @@
 //! The new row of a point.
-ghost use Rattle.std.specs.Prelude.{◌≡◌, ◌+◌, ◌<◌, ◌≤◌, length, take};
+ghost use Rattle.std.specs.Prelude.{◌≡◌, ◌<◌, ◌≤◌, length, take};
 ghost use Rattle.ann_defs.specs.Graph.{AreGoodRows};
 ghost use Rattle.ann_defs.specs.BatchInsert.{new_row_of};
 ghost use Rattle.vamana_build.specs.Builds.{build_by};

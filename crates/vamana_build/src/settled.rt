@@ -1,5 +1,5 @@
 //! How many ids at the front of each row one prune left together.
-ghost use Rattle.std.specs.Prelude.{◌≡◌, ◌<◌, ◌≤◌, ℕ, true, false, length};
+ghost use Rattle.std.specs.Prelude.{◌≡◌, ◌<◌, true, false, length};
 ghost use Rattle.std.specs.List.{range_with_len};
 ghost use Rattle.ann_defs.specs.BatchInsert.{last_row_of, new_row_of};
 ghost use Rattle.ann_defs.specs.Graph.{has, row_in};

@@ -1,10 +1,7 @@
 //! From one graph of a build to the next.
-ghost use Rattle.std.specs.Prelude.{◌≡◌, ◌+◌, ◌*◌, ◌%◌, ◌<◌, ◌≤◌, IfOk, OnOk, OnErr, length};
+ghost use Rattle.std.specs.Prelude.{◌≡◌, ◌+◌, ◌*◌, ◌%◌, ◌<◌, ◌≤◌, IfOk, OnErr, length};
 ghost use Rattle.ann_defs.specs.declared.limits.TheConstants.{MAX_POINTS};
-ghost use Rattle.std.specs.List.{All};
-ghost use Rattle.std.specs.Ordering.{nat_cmp};
 ghost use Rattle.ann_defs.specs.Graph.{row_in};
-ghost use Rattle.ann_defs.specs.Ordered.{ordered};
 ghost use Rattle.ann_defs.specs.BatchInsert.{bound_at};
 ghost use Rattle.steal_pool.specs.Work.{AllServe};
 ghost use Rattle.vamana_build.specs.Builds.{pass_of, batches_of, build_at, graph_at, rows_at};
