@@ -73,12 +73,7 @@ fn merges_changed<R: Threads + Sync, P: Rounds, G: Gate + Sync>(
     ensures serve { AllServe (Serves (length rows.now.plan.now.points.now.vectors) rows.now.plan.now.settings.beam) posts.new }
     ensures workers { P.count pool.new ≡ P.count pool.old }
 {
-    let merging = Merges {
-        plan: rows.plan,
-        alpha: rows.alpha,
-        batch: rows.batch,
-        counts,
-    };
+    let merging = Merges { rows, counts };
     changed_rows(
         rt, alloc, pool, rows.graph, rows.batch, fresh, &merging, posts, gate,
     )

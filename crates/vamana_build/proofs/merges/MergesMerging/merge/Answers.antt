@@ -14,7 +14,7 @@ use Rattle.vamana_build.proofs.merges.MergesMerging.merge.Goals as goal
 
 pub merged_row-requires-clause-room : goal.merged_row-requires-clause-room
 merged_row-requires-clause-room c =
-    let plan = c.args.self.now.plan.now in
+    let plan = c.args.self.now.rows.now.plan.now in
     let n = length plan.points.now.vectors in
     let few = sources_few n c.args.target (sources_in c.args.sources.now) c.requires.sources in
     let same : length (sources_in c.args.sources.now) ≡ length c.args.sources.now = length-map c.args.sources.now (λ (p : Pair). p.source) in
@@ -32,10 +32,10 @@ known b t row laid count is h =
 
 pub merged_row-requires-clause-settled : goal.merged_row-requires-clause-settled
 merged_row-requires-clause-settled c κs =
-    let m = c.args.self.now in
-    (known (build_by m.plan.now.points.now.vectors m.plan.now.settings m.alpha) c.args.target c.args.row.now _ _ c.count_of-settled.ensures.value c.requires.known).0
+    let w = c.args.self.now.rows.now in
+    (known (build_by w.plan.now.points.now.vectors w.plan.now.settings w.alpha) c.args.target c.args.row.now _ _ c.count_of-settled.ensures.value c.requires.known).0
 
 pub merged_row-requires-clause-apart : goal.merged_row-requires-clause-apart
 merged_row-requires-clause-apart c κs =
-    let m = c.args.self.now in
-    (known (build_by m.plan.now.points.now.vectors m.plan.now.settings m.alpha) c.args.target c.args.row.now _ _ c.count_of-settled.ensures.value c.requires.known).1
+    let w = c.args.self.now.rows.now in
+    (known (build_by w.plan.now.points.now.vectors w.plan.now.settings w.alpha) c.args.target c.args.row.now _ _ c.count_of-settled.ensures.value c.requires.known).1
