@@ -21,9 +21,6 @@ row_of_vec f rows batch i v same lt is =
     ∙ ap (λ (xs : List (List ℕ)). get_or xs i []) same
     ∙ get_or-map f batch i 0 [] lt
 
-pub rows_many : (f : ℕ → List ℕ) (rows : List (Vec ℕ Global)) (batch : List ℕ) → map items_of rows ≡ map f batch → length rows ≡ length batch
-rows_many f rows batch same = sym (length-map rows items_of) ∙ ap (λ (xs : List (List ℕ)). length xs) same ∙ length-map batch f
-
 module _ (b : LayeredBuild) (layers : List (List (List ℕ))) (p l : ℕ) (words : List ℕ) (is : words ≡ rows_of_point b layers p) (le : l ≤ level_in b.levels p) where
   -- the row of the layer is within
   pub part_within : l * (b.degree + 1) + (b.degree + 1) ≤ length words

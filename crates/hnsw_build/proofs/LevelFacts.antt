@@ -9,7 +9,7 @@ use Rattle.std.proofs.lemmas.List.Elements.{filter-append}
 use Rattle.ann_defs.specs.Graph.{has}
 use Rattle.ann_defs.specs.Ordered.{Has, Ascends}
 use Rattle.ann_defs.proofs.Order.{Contains-from_has}
-use Rattle.ann_defs.proofs.Members.{and_both, both_and, filter_has, has-filter, has_true, true_has}
+use Rattle.ann_defs.proofs.Members.{and_both, both_and, filter_has, has-filter, has_true, true_has, same_bool}
 use Rattle.batch_insert.proofs.Ascending.{Rises-filter, range_rises, ascends, in_range_has}
 use Rattle.batch_insert.proofs.Differing.{range_more}
 use Rattle.hnsw_build.specs.Layering.{level_in, top_of, is_in, ids_in}
@@ -77,12 +77,6 @@ module _ (levels : List ℕ) where
 
   pub ids_ascend : (l : ℕ) → Ascends (ids_in levels l)
   ids_ascend l = ascends (ids_in levels l) (Rises-filter nat_cmp (is_in levels l) (range_with_len 0 (length levels)) (range_rises 0 (length levels)))
-
-same_bool : (a b : Bool) → (a ≡ true → b ≡ true) → (b ≡ true → a ≡ true) → a ≡ b
-same_bool true true f g = refl
-same_bool true false f g = sym (f refl)
-same_bool false true f g = g refl
-same_bool false false f g = refl
 
 -- a filtered list has those members that pass
 pub has_filtered : (t : ℕ → Bool) (ids : List ℕ) (u : ℕ) → (has ids u && t u) ≡ has (filter t ids) u

@@ -1,5 +1,5 @@
 -- The new rows of a point, one after another.
-use Rattle.std.proofs.Common.{◌≡◌, ℕ, zero, suc, ◌+◌, ◌-◌, ◌*◌, ◌<◌, ◌≤◌, List, [], ◌∷◌, ◌++◌, take, drop, replicate, length, refl, sym, ap, ◌∙◌, inl, inr, arith, length-append}
+use Rattle.std.proofs.Common.{◌≡◌, ℕ, zero, suc, ◌+◌, ◌-◌, ◌*◌, ◌<◌, ◌≤◌, List, [], ◌∷◌, ◌++◌, take, drop, replicate, length, sym, ap, ◌∙◌, inl, inr, arith, length-append}
 use Rattle.std.proofs.lemmas.Bool.{cases_lt}
 use Rattle.std.proofs.lemmas.List.{length-map, take_at, drop_at, length-take-le}
 use Rattle.std.proofs.Math.Seq.{drop-append-add}
@@ -64,9 +64,6 @@ module _ (b : LayeredBuild) (layers : List (List (List ℕ))) (p : ℕ) where
 
   pub length_piece : (l : ℕ) → length (piece l) ≡ size
   length_piece l = let short = row_short l in length-padded size (new_row_in b layers l p) (omega (arith, short))
-
-  rows_next : (from count : ℕ) → rows_from b layers p from (suc count) ≡ piece from ++ rows_from b layers p (from + 1) count
-  rows_next from count = refl
 
   pub length_rows : (from count : ℕ) → length (rows_from b layers p from count) ≡ count * size
   length_rows from zero = omega arith

@@ -1,6 +1,6 @@
 -- The next batch of a build.
 use Rattle.std.proofs.Common.{◌≡◌, ℕ, suc, ◌+◌, ◌-◌, ◌*◌, ◌%◌, ◌<◌, ◌≤◌, true, false, cond, List, length, Option, Some, None, refl, sym, ap, ◌∙◌, subst, arith}
-use Rattle.std.specs.Prelude.{◌↔◌, nat_lt, IsSome, IsNone, IfSome, is_some}
+use Rattle.std.specs.Prelude.{◌↔◌, nat_lt, IsSome, IsNone, IfSome}
 use Rattle.std.proofs.Math.Nat.{mul-le-mul_right, mod-eq_of_lt, suc-mod, mod-lt, mod_self, mul-mod_left}
 use Rattle.std.proofs.lemmas.Bool.{ltb-true, lt-ltb, ltb-false, le-ltb, true≢false}
 use Rattle.ann_defs.specs.BatchInsert.{bound_at, total_of}
@@ -53,14 +53,6 @@ module _ (points : List (List ℕ)) (s : VamanaSettings) where
 
   pub few_left : (k limit : ℕ) (o : Option (ℕ × ℕ)) (b : ℕ × ℕ) → o ≡ next_of points s k → o ≡ Some b → total ≤ limit → k < limit
   few_left k limit o b e h few = let less = some_left k o b e h in omega (arith, less, few)
-
-  -- where there is none, all are
-  pub none_left : (k : ℕ) (o : Option (ℕ × ℕ)) → k ≤ total → o ≡ next_of points s k → o ≡ None → k ≡ total
-  none_left k o within e h =
-      elim (nat_lt k total) as (λ t. nat_lt k total ≡ t → cond {A = Option (ℕ × ℕ)} t (Some (bound_at n cap (place k), bound_at n cap (place k + 1))) None ≡ None → k ≡ total) [
-        | true ↦ λ _ q. absurd (true≢false (ap (λ (x : Option (ℕ × ℕ)). is_some x) q))
-        | false ↦ λ t _. let past = ltb-false k total t in omega (arith, past)
-      ] refl (sym e ∙ h)
 
   -- where there is a next batch, the batches have given it
   pub next_some : (k d : ℕ) → d ≡ place k → k < total → (Some (bound_at n cap d, bound_at n cap (d + 1)) ≡ next_of points s k) × (d + 1 ≡ given_of points s k)
