@@ -1,6 +1,6 @@
 -- The next batch of a build.
 use Rattle.std.proofs.Common.{◌≡◌, ℕ, suc, [], map, ◌+◌, ◌<◌, ◌≤◌, true, false, cond, List, length, Option, Some, None, min, refl, sym, ap, ◌∙◌, subst, arith}
-use Rattle.std.specs.Prelude.{◌↔◌, nat_lt, IsSome, IsNone, IfSome, is_some}
+use Rattle.std.specs.Prelude.{◌↔◌, nat_lt, IsSome, IsNone, IfSome}
 use Rattle.std.proofs.lemmas.Bool.{ltb-true, lt-ltb, ltb-false, le-ltb, true≢false}
 use Rattle.ann_defs.specs.BatchInsert.{bound_at, total_of}
 use Rattle.beam_search.specs.Room.{Room}
@@ -23,32 +23,22 @@ use Rattle.hnsw_build.specs.Wanted.{change_in}
 use Rattle.hnsw_build.proofs.Stepping.{base_next, upper_next}
 
 module _ (points : List (List ℕ)) (s : HnswSettings) where
-  abbrev n : ℕ
-  n = length points
-
-  abbrev cap : ℕ
-  cap = batch_cap points s
-
   abbrev total : ℕ
   total = batches_of points s
 
   abbrev at : ℕ → Progress
-  at k = record { n = n; cap = cap; done = k }
+  at k = record { n = length points; cap = batch_cap points s; done = k }
+
+  -- the places of the batch after the first k
+  abbrev places : ℕ → ℕ × ℕ
+  places k = (bound_at (length points) (batch_cap points s) k, bound_at (length points) (batch_cap points s) (k + 1))
 
   -- where there is a next batch, not all are in
   pub some_left : (k : ℕ) (o : Option (ℕ × ℕ)) (b : ℕ × ℕ) → o ≡ next_of points s k → o ≡ Some b → k < total
   some_left k o b e h =
-      elim (nat_lt k total) as (λ t. nat_lt k total ≡ t → cond {A = Option (ℕ × ℕ)} t (Some (bound_at n cap k, bound_at n cap (k + 1))) None ≡ Some b → k < total) [
+      elim (nat_lt k total) as (λ t. nat_lt k total ≡ t → cond {A = Option (ℕ × ℕ)} t (Some (places k)) None ≡ Some b → k < total) [
         | true ↦ λ t _. ltb-true k total t
         | false ↦ λ _ q. cc
-      ] refl (sym e ∙ h)
-
-  -- where there is none, all are
-  pub none_left : (k : ℕ) (o : Option (ℕ × ℕ)) → k ≤ total → o ≡ next_of points s k → o ≡ None → k ≡ total
-  none_left k o within e h =
-      elim (nat_lt k total) as (λ t. nat_lt k total ≡ t → cond {A = Option (ℕ × ℕ)} t (Some (bound_at n cap k, bound_at n cap (k + 1))) None ≡ None → k ≡ total) [
-        | true ↦ λ _ q. absurd (true≢false (ap (λ (x : Option (ℕ × ℕ)). is_some x) q))
-        | false ↦ λ t _. let past = ltb-false k total t in omega (arith, past)
       ] refl (sym e ∙ h)
 
   -- what the batches give after the first k
@@ -63,16 +53,16 @@ module _ (points : List (List ℕ)) (s : HnswSettings) where
   next_at k new None within h =
       let past : total ≤ k = not_below k (λ less. let some : IsSome {T = ℕ × ℕ} None = h.counted.1 less in true≢false (sym some)) in
       let count : k ≡ min (k + 1) total = omega (arith, past) in
-      (sym (ap (λ t. cond {A = Option (ℕ × ℕ)} t (Some (bound_at n cap k, bound_at n cap (k + 1))) None) (le-ltb k total past)), h.same refl ∙ ap at count)
+      (sym (ap (λ t. cond {A = Option (ℕ × ℕ)} t (Some (places k)) None) (le-ltb k total past)), h.same refl ∙ ap at count)
     where
       not_below : (k : ℕ) → (k < total → ⊥) → total ≤ k
       not_below k f = elim (nat_lt k total) as (λ t. nat_lt k total ≡ t → total ≤ k) [ true ↦ λ e. absurd (f (ltb-true k total e)) | false ↦ λ e. ltb-false k total e ] refl
   next_at k new (Some b) within h =
       let less : k < total = h.counted.0 refl in
       let count : k + 1 ≡ min (k + 1) total = omega (arith, less) in
-      (ap Some h.bounds ∙ sym (ap (λ t. cond {A = Option (ℕ × ℕ)} t (Some (bound_at n cap k, bound_at n cap (k + 1))) None) (lt-ltb k total less)), h.given ∙ ap at count)
+      (ap Some h.bounds ∙ sym (ap (λ t. cond {A = Option (ℕ × ℕ)} t (Some (places k)) None) (lt-ltb k total less)), h.given ∙ ap at count)
 
-  pub next_is : (k : ℕ) (old new : Progress) (next : Option (ℕ × ℕ)) → k ≤ total → old ≡ at k → IsNext k old new next → (next ≡ next_of points s k) × (new ≡ at (min (k + 1) total)) × IfSome next (λ b. (b.0 < b.1) × (b.1 ≤ n))
+  pub next_is : (k : ℕ) (old new : Progress) (next : Option (ℕ × ℕ)) → k ≤ total → old ≡ at k → IsNext k old new next → (next ≡ next_of points s k) × (new ≡ at (min (k + 1) total)) × IfSome next (λ b. (b.0 < b.1) × (b.1 ≤ length points))
   next_is k old new next within e h =
       let here : IsNext k (at k) new next = subst (λ (o : Progress). IsNext k o new next) e h in
       let told = next_at k new next within here in
@@ -81,11 +71,11 @@ module _ (points : List (List ℕ)) (s : HnswSettings) where
   -- one batch more
   pub stepped : (levels : List ℕ) (is : IsLayered (build_of points s levels)) (k : ℕ) (base base' : Flat) (upper upper' : List Layered) (batches batches' : Progress) (next next' : Option (ℕ × ℕ)) (posts posts' : List (Post Room)) (b : ℕ × ℕ) (changed : List (ℕ × List ℕ)) (changes : List (List (ℕ × List ℕ)))
       → IsBuilt points s levels k base upper batches next posts → next ≡ Some b
-      → changed ≡ change_in (build_of points s levels) (layers_at points s levels k) (batch_at (order_of points s levels) cap (suc k)) 0
-      → changes ≡ map (change_in (build_of points s levels) (layers_at points s levels k) (batch_at (order_of points s levels) cap (suc k))) (range_with_len 1 (top_of levels))
+      → changed ≡ change_in (build_of points s levels) (layers_at points s levels k) (batch_at (order_of points s levels) (batch_cap points s) (suc k)) 0
+      → changes ≡ map (change_in (build_of points s levels) (layers_at points s levels k) (batch_at (order_of points s levels) (batch_cap points s) (suc k))) (range_with_len 1 (top_of levels))
       → base' ≡ put_all base changed → length upper' ≡ length upper
       → ((j : ℕ) (d : Layered) → j < length upper → slice_index_or upper' j d ≡ put_all_in_layer (slice_index_or upper j d) (slice_index_or changes j []))
-      → IsNext (k + 1) batches batches' next' → AllServe (Serves n s.beam) posts' → length posts' ≡ length posts → IsBuilt points s levels (k + 1) base' upper' batches' next' posts'
+      → IsNext (k + 1) batches batches' next' → AllServe (Serves (length points) s.beam) posts' → length posts' ≡ length posts → IsBuilt points s levels (k + 1) base' upper' batches' next' posts'
   stepped levels is k base base' upper upper' batches batches' next next' posts posts' b changed changes built some first others put same each more serve count =
       let less = some_left k next b built.next_is some in
       let done : min (k + 1) total ≡ k + 1 = omega (arith, less) in
