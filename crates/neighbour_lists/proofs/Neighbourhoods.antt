@@ -1,5 +1,5 @@
 -- Neighbourhoods.
-use Rattle.std.proofs.Common.{◌≡◌, ℕ, ◌<◌, Bool, true, false, List, [], length, refl, sym, ◌∙◌, subst, inl, inr, arith}
+use Rattle.std.proofs.Common.{◌≡◌, ℕ, ◌<◌, List, [], length, sym, ◌∙◌, subst, inl, inr, arith}
 use Rattle.std.specs.Prelude.{◌⊎◌, ◌==◌, not}
 use Rattle.std.specs.List.{flat_map, range_with_len}
 use Rattle.std.proofs.lemmas.List.FromFn.{get_or-map-range_with_len}
@@ -7,7 +7,7 @@ use Rattle.ann_defs.specs.Graph.{has, without, row_in, AreGoodRows}
 use Rattle.ann_defs.specs.Laws.{AreAlike}
 use Rattle.ann_defs.specs.Ordered.{Has}
 use Rattle.ann_defs.proofs.Alike.{alike_has, alike_back}
-use Rattle.ann_defs.proofs.Members.{has-append, append-has, has-flat, flat-has, has-filter, filter_has, has_true, true_has, range_has}
+use Rattle.ann_defs.proofs.Members.{has-append, append-has, has-flat, flat-has, has-filter, filter_has, has_true, true_has, range_has, same_bool}
 use Rattle.ann_defs.proofs.Order.{All_has}
 use Rattle.robust_prune.specs.Nearest.{nearest_alike}
 use Rattle.neighbour_lists.specs.ListRound.{nearest_of, sources_of, reverse_of, around, reached, next_row, next_rows}
@@ -16,13 +16,7 @@ use Rattle.neighbour_lists.proofs.NearestLists.{nearest_is_good}
 
 -- one list has each member of another
 pub alike_both : (xs ys : List ℕ) → ((u : ℕ) → Has xs u → Has ys u) → ((u : ℕ) → Has ys u → Has xs u) → AreAlike xs ys
-alike_both xs ys p q u = same (has xs u) (has ys u) (λ h. true_has ys u (p u (has_true xs u h))) (λ h. true_has xs u (q u (has_true ys u h)))
-  where
-    same : (a b : Bool) → (a ≡ true → b ≡ true) → (b ≡ true → a ≡ true) → a ≡ b
-    same true true f g = refl
-    same true false f g = sym (f refl)
-    same false true f g = g refl
-    same false false f g = refl
+alike_both xs ys p q u = same_bool (has xs u) (has ys u) (λ h. true_has ys u (p u (has_true xs u h))) (λ h. true_has xs u (q u (has_true ys u h)))
 
 without_alike : (v : ℕ) (xs ys : List ℕ) → AreAlike xs ys → AreAlike (without v xs) (without v ys)
 without_alike v xs ys same = alike_both (without v xs) (without v ys) (either xs ys same) (either ys xs (alike_back xs ys same))

@@ -1,7 +1,7 @@
 -- Rows where those of some ids are new ones.
 use Rattle.std.proofs.Common.{◌≡◌, ℕ, ◌<◌, Bool, true, false, cond, List, [], ◌∷◌, ◌++◌, set, length, refl, sym, ap, ◌∙◌, subst, inl, inr, arith, length-set}
 use Rattle.std.specs.Prelude.{◌==◌, ◌||◌}
-use Rattle.std.proofs.lemmas.Bool.{cases_eq, eq-eqb, ne_eqb}
+use Rattle.std.proofs.lemmas.Bool.{cases_eq, eq-eqb, ne_eqb, or_right}
 use Rattle.std.proofs.lemmas.List.{get_or-set_same, get_or-set_other}
 use Rattle.std.proofs.lemmas.List.FromFn.{length-map-range_with_len, get_or-map-range_with_len, fill_by_all}
 use Rattle.ann_defs.specs.Graph.{has, row_in}
@@ -34,7 +34,7 @@ module _ (row : ℕ → List ℕ) (rows : List (List ℕ)) where
         | inl e ↦
             let long = length-with_rows ids in
             let here : row_in (set (with_rows row ids rows) v (row v)) v ≡ row v = get_or-set_same (with_rows row ids rows) v (row v) [] (omega (arith, long, lt)) in
-            let listed : has (ids ++ v ∷ []) v ≡ true = has-append ids (v ∷ []) v ∙ ap (λ b. has ids v || (b || false)) (eq-eqb v v refl) ∙ or-true (has ids v) in
+            let listed : has (ids ++ v ∷ []) v ≡ true = has-append ids (v ∷ []) v ∙ or_right (has ids v) ((v == v) || false) (ap (λ b. b || false) (eq-eqb v v refl)) in
             subst (λ m. row_in (set (with_rows row ids rows) v (row v)) m ≡ new (ids ++ v ∷ []) m) (sym e) (here ∙ sym (ap (λ b. cond b (row v) (row_in rows v)) listed))
         | inr ne ↦
             let same : has (ids ++ v ∷ []) k ≡ has ids k = has-append ids (v ∷ []) k ∙ ap (λ b. has ids k || (b || false)) (ne_eqb v k (λ e. ne (sym e))) ∙ or-false (has ids k) in
@@ -43,10 +43,6 @@ module _ (row : ℕ → List ℕ) (rows : List (List ℕ)) where
             ∙ sym (ap (λ b. cond b (row k) (row_in rows k)) same)
       ])
     where
-      or-true : (b : Bool) → (b || true) ≡ true
-      or-true true = refl
-      or-true false = refl
-
       or-false : (b : Bool) → (b || false) ≡ b
       or-false true = refl
       or-false false = refl

@@ -5,6 +5,7 @@ use Rattle.ann_defs.specs.Graph.{row_in, AreGoodRows}
 use Rattle.neighbour_lists.specs.declared.next_row.NextRow.{NextRow}
 use Rattle.neighbour_lists.specs.Fresh.{ArePoints, AreHoods}
 use Rattle.neighbour_lists.specs.Held.{Held, BelongTo}
+use Rattle.neighbour_lists.specs.Offering.{Offers, ServesRows}
 use Rattle.neighbour_lists.specs.Reversed.{others_of}
 use Rattle.neighbour_lists.proofs.AllRows.{mapped_count, mapped_row}
 use Rattle.neighbour_lists.proofs.Joining.{others_inside}
@@ -49,3 +50,7 @@ module _ (points : List (List ℕ)) (h l : Held) (same : h ≡ l) (belong : Belo
 
   pub seen_others_count : length h.seen_others ≡ length points
   seen_others_count = ap (λ (x : Held). length x.seen_others) same ∙ belong.seen_others
+
+-- a scratch that serves the lists serves the rows that they stand in
+pub rows_serve : (n width : ℕ) (h l : Held) → width ≡ h.list → h ≡ l → (s : Offers) → ServesRows n l.list s → ServesRows n width s
+rows_serve n width h l is same s serves = subst (λ k. ServesRows n k s) (sym (is ∙ ap (λ (x : Held). x.list) same)) serves

@@ -1,5 +1,5 @@
 //! Neighbourhoods that are offered.
-ghost use Rattle.std.specs.Prelude.{◌≡◌, ◌<◌, length};
+ghost use Rattle.std.specs.Prelude.{◌≡◌, ◌<◌, ◌++◌, length};
 ghost use Rattle.std.specs.List.{All, flat_map};
 ghost use Rattle.neighbour_lists.specs.Fresh.{parts, AreHoods};
 ghost use Rattle.neighbour_lists.specs.Offering.{IsOffered, HasOffered};
@@ -25,8 +25,25 @@ pub(crate) fn offer_around(
     requires offered { IsOffered points.now.vectors v scratch.old }
     ensures { HasOffered points.now.vectors v (flat_map (parts rows.now.rows others.now.rows) (parts around.now.rows.rows around.now.others.rows v)) scratch.old scratch.new }
 {
-    offer_each(points, scratch, v, around.rows.at(v), rows, others);
-    offer_each(points, scratch, v, around.others.at(v), rows, others);
+    let (row, back) = parts_of(points, v, &around.rows, &around.others);
+    offer_each(points, scratch, v, row, rows, others);
+    offer_each(points, scratch, v, back, rows, others);
+}
+
+// Both parts of the neighbourhood of u.
+fn parts_of<'a>(
+    _points: &Points,
+    u: u32,
+    rows: &'a FlatGraph,
+    others: &'a FlatGraph,
+) -> (&'a [u32], &'a [u32])
+    requires u { u < length _points.now.vectors }
+    requires hoods { AreHoods (length _points.now.vectors) rows.now.rows others.now.rows }
+    ensures parts { result.0.now ++ result.1.now ≡ parts rows.now.rows others.now.rows u }
+    ensures row { All (λ w. w < length _points.now.vectors) result.0.now }
+    ensures back { All (λ w. w < length _points.now.vectors) result.1.now }
+{
+    (rows.at(u), others.at(u))
 }
 
 // Offers both parts of the neighbourhood of each of the ids. The rows are read ahead.
@@ -83,6 +100,7 @@ fn offer_parts(
     requires offered { IsOffered points.now.vectors v scratch.old }
     ensures { HasOffered points.now.vectors v (parts rows.now.rows others.now.rows u) scratch.old scratch.new }
 {
-    scratch.offer(points, v, rows.at(u));
-    scratch.offer(points, v, others.at(u));
+    let (row, back) = parts_of(points, u, rows, others);
+    scratch.offer(points, v, row);
+    scratch.offer(points, v, back);
 }

@@ -5,22 +5,20 @@ use Rattle.ann_defs.specs.Graph.{row_in}
 use Rattle.pivot_trees.specs.Leaves.{leaf_with}
 use Rattle.neighbour_lists.specs.Held.{Held, ArePointLists}
 use Rattle.neighbour_lists.specs.ListRound.{nearest_of}
-use Rattle.neighbour_lists.specs.Offering.{ServesRows}
 use Rattle.neighbour_lists.specs.WrittenRows.{with_rows}
 use Rattle.neighbour_lists.proofs.AllRows.{all_inside, all_written}
 use Rattle.neighbour_lists.proofs.LeafRows.{leaf_lists}
+use Rattle.neighbour_lists.proofs.RoundRows.{rows_serve}
 use Rattle.neighbour_lists.proofs.leaves.leaf_rows.Goals as goal
+
+pub lists_by-requires-clause-serves : goal.lists_by-requires-clause-serves
+lists_by-requires-clause-serves g c κs within = rows_serve (length c.args.points.now.vectors) _ _ c.args.lists.now c.lists.invariant c.lists.view_is
 
 pub lists_by-requires-clause-inside : goal.lists_by-requires-clause-inside
 lists_by-requires-clause-inside g c κs within =
     let n = length c.args.points.now.vectors in
     let ids : c.deref.result.now ≡ range_with_len 0 n = c.deref.ensures.value ∙ c.in_ok-ids.ensures ∙ ap (range_with_len 0) c.count-3.ensures.value in
     subst (All (λ (v : ℕ). v < n)) (sym ids) (all_inside n)
-
-pub lists_by-requires-clause-serves : goal.lists_by-requires-clause-serves
-lists_by-requires-clause-serves g c κs within = λ s h.
-    let n = length c.args.points.now.vectors in
-    subst (λ w. ServesRows n w s) (sym c.lists.invariant) (subst (λ (l : Held). ServesRows n l.list s) (sym c.lists.view_is) h)
 
 pub returns-clause-rows : goal.returns-clause-rows
 returns-clause-rows g c =

@@ -3,11 +3,11 @@ use Rattle.std.specs.List.{All, range_with_len}
 use Rattle.neighbour_lists.specs.Fresh.{AreWithout, ArePast}
 use Rattle.neighbour_lists.specs.Held.{Held}
 use Rattle.neighbour_lists.specs.ListRound.{next_row}
-use Rattle.neighbour_lists.specs.Offering.{ServesRows}
 use Rattle.neighbour_lists.specs.Reversed.{others_of}
 use Rattle.neighbour_lists.specs.Rounds.{active_ids}
 use Rattle.neighbour_lists.specs.WrittenRows.{with_rows}
 use Rattle.neighbour_lists.proofs.Activity.{flags_few, active_inside, next_are}
+use Rattle.neighbour_lists.proofs.RoundRows.{rows_serve}
 use Rattle.neighbour_lists.proofs.next_lists.next_lists.Goals as goal
 
 pub list_active-requires : goal.list_active-requires
@@ -43,9 +43,7 @@ lists_by-requires-clause-inside g c κs within =
     subst (All (λ (v : ℕ). v < length c.args.points.now.vectors)) (sym (c.deref.ensures.value ∙ c.in_ok-ids.ensures)) (active_inside c.args.points.now.vectors c.args.lists.now c.requires.belong)
 
 pub lists_by-requires-clause-serves : goal.lists_by-requires-clause-serves
-lists_by-requires-clause-serves g c κs within = λ s h.
-    let n = length c.args.points.now.vectors in
-    subst (λ w. ServesRows n w s) (sym c.lists.invariant) (subst (λ (l : Held). ServesRows n l.list s) (sym c.lists.view_is) h)
+lists_by-requires-clause-serves g c κs within = rows_serve (length c.args.points.now.vectors) _ _ c.args.lists.now c.lists.invariant c.lists.view_is
 
 pub returns-clause-rows : goal.returns-clause-rows
 returns-clause-rows g c =
