@@ -1,14 +1,12 @@
 -- Places and callers, taken from the end and put into a list.
-use Rattle.std.proofs.Common.{◌≡◌, ◌∙◌, ℕ, ◌+◌, ◌<◌, ◌≤◌, List, [], ◌∷◌, ◌++◌, length, get_or, sym, ap, subst, arith, below_more}
+use Rattle.std.proofs.Common.{◌≡◌, ◌∙◌, ℕ, ◌+◌, ◌≤◌, List, [], ◌∷◌, ◌++◌, length, get_or, sym, ap, subst, arith, below_more}
 use Rattle.std.proofs.lemmas.List.{get_or_append_left, get_or_push, length_push}
 use Rattle.versions.specs.Course.{Course, total_of}
 use Rattle.versions.specs.Standing.{Standing, starting}
 use Rattle.live_session.specs.declared.asker.Asker.{Asker}
-use Rattle.live_session.specs.declared.asker.Seat.{Seat}
 use Rattle.live_session.specs.declared.asking.Asking.{Asking}
 use Rattle.live_session.specs.declared.seats.Place.{Place}
-use Rattle.live_session.specs.Rows.{Row}
-use Rattle.live_session.specs.Askers.{AreNumbered, ArePlaces, IsPlace, IsSeat, Stands}
+use Rattle.live_session.specs.Askers.{AreNumbered, ArePlaces, IsPlace, Stands}
 
 -- one place more
 pub places_more : (places : List Place) (p : Place) → p.seat.first ≡ length places → ArePlaces places → ArePlaces (places ++ p ∷ [])

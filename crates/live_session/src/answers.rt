@@ -50,9 +50,8 @@ impl LiveAnswers {
         requires { j < length self.now }
         ensures { result ≡ (slice_index_or self.now j (0, [])).0 }
     {
-        let callers = self.rows.len();
-        let place = j as usize;
-        self.rows[place % callers].batch(place / callers)
+        let (row, place) = self.place_of(j);
+        row.batch(place)
     }
 
     /// The answer to query `j`.
@@ -60,8 +59,18 @@ impl LiveAnswers {
         requires { j < length self.now }
         ensures { result.now ≡ (slice_index_or self.now j (0, [])).1 }
     {
+        let (row, place) = self.place_of(j);
+        row.nears(place)
+    }
+
+    // The row of the caller that asked query `j`, and the place of the answer in it.
+    fn place_of(&self, j: u32) -> (&AnswerRow, usize)
+        requires { j < length self.now }
+        ensures place { result.1 < length result.0.now.answers }
+        ensures answer { slice_index_or result.0.now.answers result.1 (0, []) ≡ slice_index_or self.now j (0, []) }
+    {
         let callers = self.rows.len();
         let place = j as usize;
-        self.rows[place % callers].nears(place / callers)
+        (&self.rows[place % callers], place / callers)
     }
 }

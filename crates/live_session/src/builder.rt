@@ -1,6 +1,5 @@
 //! The builder's side: batch after batch.
-ghost use Rattle.std.specs.Prelude.{◌≡◌, ◌+◌, ◌<◌, IfOk};
-ghost use Rattle.vamana_build.specs.Builds.{batches_of};
+ghost use Rattle.std.specs.Prelude.{◌≡◌, ◌+◌, IfOk};
 ghost use Rattle.versions.specs.Course.{course_of, total_of, LeadsFrom};
 ghost use Rattle.live_session.specs.Builder.{AreInStep};
 
@@ -28,28 +27,6 @@ fn publish<R: Wait>(
     }
 }
 
-// Puts one batch in, and publishes it.
-fn next_batch<R: Threads + Wait + Sync, P: Rounds, G: Gate + Sync>(
-    rt: &R,
-    alloc: Global,
-    plan: &Plan<'_>,
-    gate: &G,
-    builder: &mut Vamana<'_>,
-    publisher: &mut Publisher<'_>,
-    pool: &mut P,
-) -> Result<(), NoMemory>
-    requires step { AreInStep (course_of plan.now) (P.count pool.old) builder.old publisher.old }
-    requires left { builder.old.batch < batches_of builder.old.points builder.old.settings }
-    ensures step { IfOk result (λ _. AreInStep (course_of plan.now) (P.count pool.new) builder.new publisher.new) }
-    ensures batch { IfOk result (λ _. builder.new.batch ≡ builder.old.batch + 1) }
-    ensures course { publisher.new.course ≡ publisher.old.course }
-{
-    let Some(change) = builder.step(rt, alloc, pool, gate)? else {
-        unreachable!()
-    };
-    publish(rt, publisher, change)
-}
-
 /// Puts all further batches in, one after another, and publishes each before the next begins. Stops at want of memory.
 pub(crate) fn build_on<R: Threads + Wait + Sync, P: Rounds, G: Gate + Sync>(
     rt: &R,
@@ -67,7 +44,10 @@ pub(crate) fn build_on<R: Threads + Wait + Sync, P: Rounds, G: Gate + Sync>(
 {
     let total = builder.total();
     for _ in 1..total {
-        next_batch(rt, alloc, plan, gate, builder, publisher, pool)?;
+        let Some(change) = builder.step(rt, alloc, pool, gate)? else {
+            unreachable!()
+        };
+        publish(rt, publisher, change)?;
     }
     Ok(())
 }

@@ -1,5 +1,5 @@
 //! What is asked when all batches are in.
-ghost use Rattle.std.specs.Prelude.{◌≡◌, ◌+◌, ◌*◌, ◌<◌, ◌≤◌, [], length, IfOk};
+ghost use Rattle.std.specs.Prelude.{◌≡◌, ◌≤◌, [], length, IfOk};
 ghost use Rattle.std.specs.List.{All};
 ghost use Rattle.versions.specs.Course.{course_of, total_of};
 ghost use Rattle.live_session.specs.Asked.{AreWhole, Fits, IsRow, IsWhole};
@@ -37,35 +37,8 @@ fn finish<G: Gate>(
     }
 }
 
-// Asks one query in the last graph, by a caller that was told of it. Where its entry is refused the graph is searched
+// Asks all queries of a caller in the last graph, of which it was told. Where an entry is refused the graph is searched
 // without it.
-fn ask_last(
-    caller: &mut Caller<'_>,
-    row: &mut AnswerRow,
-    seat: &mut Seat,
-    asking: &Asking<'_>,
-    graph: &LastGraph<'_>,
-    query: u32,
-)
-    requires last { graph.now.batch ≡ total_of (course_of graph.now.plan.now) }
-    requires fits { Fits (course_of graph.now.plan.now) asking.now }
-    requires asks { AsksIn (course_of graph.now.plan.now) asking.now graph.now.batch caller.old seat.old row.old }
-    requires room { length row.old.answers < row.old.size }
-    requires next { query ≡ seat.old.first + length row.old.answers * asking.now.callers }
-    requires query { query < length asking.now.queries.now.vectors }
-    ensures asks { AsksIn (course_of graph.now.plan.now) asking.now graph.now.batch caller.new seat.new row.new }
-    ensures first { seat.new.first ≡ seat.old.first }
-    ensures grown { length row.new.answers ≡ length row.old.answers + 1 }
-    ensures size { row.new.size ≡ row.old.size }
-{
-    let Some(batch) = ask(caller, seat, asking, query) else {
-        graph.answer(asking, query, &mut seat.scratch, row);
-        return;
-    };
-    row.push(batch, seat.out.pairs());
-}
-
-// Asks all queries of a caller in the last graph.
 fn ask_all_last(
     caller: &mut Caller<'_>,
     row: &mut AnswerRow,
@@ -82,7 +55,11 @@ fn ask_all_last(
         let Some(query) = query_at(asking, seat.first, place) else {
             return;
         };
-        ask_last(caller, row, seat, asking, graph, query);
+        let Some(batch) = ask(caller, seat, asking, query) else {
+            graph.answer(asking, query, &mut seat.scratch, row);
+            continue;
+        };
+        row.push(batch, seat.out.pairs());
     }
 }
 

@@ -1,18 +1,12 @@
-use Rattle.std.proofs.Common.{◌≡◌, ◌∙◌, sym, arith}
+use Rattle.std.proofs.Common.{◌≡◌, arith}
 use Rattle.vamana_build.specs.Builds.{batches_of}
 use Rattle.versions.specs.Course.{course_of}
-use Rattle.live_session.proofs.Leading.{total_is}
+use Rattle.live_session.proofs.Leading.{step_leads, total_is}
 use Rattle.live_session.proofs.builder.build_on.Goals as goal
 
-pub next_batch-requires-clause-left : goal.next_batch-requires-clause-left
-next_batch-requires-clause-left g c =
-    let was = c.requires.step in
-    let now = c.loop.invariant.step in
-    let same : batches_of c.args.builder.now.points c.args.builder.now.settings ≡ batches_of c.loop.builder.points c.loop.builder.settings = λ i. batches_of ((was.points ∙ sym now.points) i) ((was.settings ∙ sym now.settings) i) in
-    let at = c.loop.invariant.at in
-    let total = c.total-total.ensures.value in
-    let test = c.loop-test.true in
-    omega (arith, same, at, total, test)
+pub publish-requires : goal.publish-requires
+publish-requires g c =
+    step_leads c.args.plan.now _ c.loop.builder c.step.new.self c.loop.publisher _ c.in-Some.change c.loop.invariant.step c.in-Some.is c.in_ok-change.ensures.some
 
 pub returns-clause-all : goal.returns-clause-all
 returns-clause-all g c =

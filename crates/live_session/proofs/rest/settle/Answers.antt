@@ -1,4 +1,4 @@
-use Rattle.std.proofs.Common.{◌≤◌, ◌∙◌, arith}
+use Rattle.std.proofs.Common.{◌≤◌, arith}
 use Rattle.versions.specs.Course.{course_of}
 use Rattle.live_session.proofs.Rows.{row_widen}
 use Rattle.live_session.proofs.rest.settle.Goals as goal

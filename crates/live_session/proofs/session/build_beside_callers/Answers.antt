@@ -1,4 +1,4 @@
-use Rattle.std.proofs.Common.{◌≡◌, ◌∙◌, ◌≤◌, sym, ap, subst}
+use Rattle.std.proofs.Common.{◌∙◌, ◌≤◌, sym, ap, subst}
 use Rattle.vamana_build.specs.Builds.{batches_of, graph_at}
 use Rattle.vamana_build.specs.Building.{Building}
 use Rattle.versions.specs.Course.{course_of}

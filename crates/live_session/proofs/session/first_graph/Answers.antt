@@ -1,4 +1,4 @@
-use Rattle.std.proofs.Common.{◌≡◌, ◌∙◌, ◌+◌, ◌<◌, ap, subst, sym, Option, Some, IfSome, arith}
+use Rattle.std.proofs.Common.{◌≡◌, ◌∙◌, ◌+◌, ◌<◌, ap, subst, Option, IfSome, arith}
 use Rattle.vamana_build.specs.Builds.{batches_of, graph_at}
 use Rattle.vamana_build.specs.Building.{Building}
 use Rattle.vamana_build.specs.Changes.{Change, change_at}
