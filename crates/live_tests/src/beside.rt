@@ -3,7 +3,7 @@ ghost use Rattle.std.specs.Prelude.{◌≡◌};
 ghost use Rattle.std.specs.List.{All};
 ghost use Rattle.ann_defs.specs.Distance.{dim_of};
 ghost use Rattle.versions.specs.Course.{course_of};
-ghost use Rattle.live_tests.specs.InStep.{AreInStep};
+ghost use Rattle.live_session.specs.Builder.{AreInStep};
 ghost use Rattle.live_tests.specs.Seated.{CanAsk};
 
 use crate::line::plain;
@@ -65,7 +65,7 @@ fn beside<R: Threads + Wait + Sync>(
     seats: &mut [Seat<'_>],
 ) -> Result<(), NoMemory>
     requires dim { dim_of queries.now.vectors ≡ dim_of plan.now.points.now.vectors }
-    requires step { AreInStep (course_of plan.now) build.old publisher.old }
+    requires step { AreInStep (course_of plan.now) 1 build.old publisher.old }
     requires can { All (CanAsk (course_of plan.now) 16 4) seats.old }
 {
     let ((), built) = join_mut(
@@ -75,7 +75,7 @@ fn beside<R: Threads + Wait + Sync>(
             requires can { All (CanAsk (course_of plan.now) 16 4) seats.now }
         { ask_everyone(rt, plan, queries, seats) },
         &mut ||
-            requires { AreInStep (course_of plan.now) build.now publisher.now }
+            requires { AreInStep (course_of plan.now) 1 build.now publisher.now }
         { publish_all(rt, alloc, plan, build, publisher) },
     );
     built

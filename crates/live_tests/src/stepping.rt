@@ -5,7 +5,7 @@ ghost use Rattle.ann_defs.specs.declared.limits.TheConstants.{MAX_CALLERS};
 ghost use Rattle.vamana_build.specs.Builds.{graph_at};
 ghost use Rattle.versions.specs.Course.{course_of, LeadsFrom};
 ghost use Rattle.versions.specs.Standing.{starting};
-ghost use Rattle.live_tests.specs.InStep.{AreInStep};
+ghost use Rattle.live_session.specs.Builder.{AreInStep};
 
 use ann_defs::MAX_CALLERS;
 use ann_shelf::{FreeGate, NoMemory};
@@ -44,7 +44,7 @@ pub(crate) fn opened<'p, R: Threads + Sync>(
     callers: u32,
 ) -> Result<(Vamana<'p>, Publisher<'p>, Vec<Caller<'p>>), NoMemory>
     requires { (1 ≤ callers) × (callers ≤ MAX_CALLERS) }
-    ensures step { IfOk result (λ t. AreInStep (course_of plan.now) t.0 t.1) }
+    ensures step { IfOk result (λ t. AreInStep (course_of plan.now) 1 t.0 t.1) }
     ensures callers { IfOk result (λ t. All (λ x. x ≡ starting (course_of plan.now)) t.2.items) }
 {
     let mut build = Vamana::new(alloc, plan, 1)?;
@@ -78,8 +78,8 @@ pub(crate) fn publish_next<'p, R: Threads + Wait + Sync>(
     build: &mut Vamana<'_>,
     publisher: &mut Publisher<'p>,
 ) -> Result<Option<BatchNote<'p>>, NoMemory>
-    requires { AreInStep (course_of plan.now) build.old publisher.old }
-    ensures step { IfOk result (λ _. AreInStep (course_of plan.now) build.new publisher.new) }
+    requires { AreInStep (course_of plan.now) 1 build.old publisher.old }
+    ensures step { IfOk result (λ _. AreInStep (course_of plan.now) 1 build.new publisher.new) }
     ensures note { IfOk result (λ o. IfSome o (λ n. n.course ≡ course_of plan.now)) }
 {
     let Some(change) = build.step(rt, alloc, &mut SerialRounds::new(), &FreeGate)? else {
@@ -96,7 +96,7 @@ pub(crate) fn publish_all<R: Threads + Wait + Sync>(
     build: &mut Vamana<'_>,
     publisher: &mut Publisher<'_>,
 ) -> Result<(), NoMemory>
-    requires { AreInStep (course_of plan.now) build.old publisher.old }
+    requires { AreInStep (course_of plan.now) 1 build.old publisher.old }
 {
     let total = build.total();
     for _ in 1..total {

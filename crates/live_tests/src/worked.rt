@@ -1,11 +1,6 @@
 //! A caller of the line of four points, whose answers are worked out by hand.
-ghost use Rattle.std.specs.Prelude.{◌≡◌, ◌≤◌};
-ghost use Rattle.std.specs.List.{All};
+ghost use Rattle.std.specs.Prelude.{◌≡◌, ◌≤◌, IfSome};
 ghost use Rattle.ann_defs.specs.Distance.{dim_of};
-ghost use Rattle.versions.specs.Course.{course_of};
-ghost use Rattle.versions.specs.Standing.{starting};
-ghost use Rattle.live_tests.specs.InStep.{AreInStep};
-ghost use Rattle.live_tests.specs.Seated.{CanAsk};
 
 use crate::answers::{is_answered, is_refused_then, is_told, never_goes_back};
 use crate::line::{line, near, plain};
@@ -13,111 +8,30 @@ use crate::seat::Seat;
 use crate::stepping::{opened, publish_next};
 use ann_shelf::NoMemory;
 use std::alloc::Global;
+use std::marker::Model;
 use std::process::Abort;
 use std::sync::Wait;
 use std::thread::Threads;
 use vamana_build::{Plan, Vamana};
-use versions::{BatchNote, Caller, Publisher};
+use versions::{BatchNote, Publisher};
 
-// Publishes the next batch, which is there, and returns a note of it.
-fn published<'p, R: Threads + Wait + Sync + Abort>(
-    rt: &R,
-    alloc: Global,
-    plan: &Plan<'_>,
-    build: &mut Vamana<'_>,
-    publisher: &mut Publisher<'p>,
-) -> BatchNote<'p>
-    requires { AreInStep (course_of plan.now) build.old publisher.old }
-    ensures step { AreInStep (course_of plan.now) build.new publisher.new }
-    ensures note { result.course ≡ course_of plan.now }
-{
-    let note = publish_next(rt, alloc, plan, build, publisher).expect(rt, "memory");
-    note.expect(rt, "a batch")
+// A build whose batches are published, and its only caller, which asks with beam 4 for one id.
+struct OneCaller<'p> {
+    plan: &'p Plan<'p>,
+    build: Vamana<'p>,
+    publisher: Publisher<'p>,
+    seat: Seat<'p>,
 }
 
-// Whether a caller is told of the third batch of the line and answered in it, and no batch is left then.
-fn told_of_the_last<'p, R: Threads + Wait + Sync + Abort>(
-    rt: &R,
-    alloc: Global,
-    plan: &Plan<'_>,
-    build: &mut Vamana<'_>,
-    publisher: &mut Publisher<'p>,
-    seat: &mut Seat<'p>,
-) -> bool
-    requires dim { dim_of plan.now.points.now.vectors ≡ 1 }
-    requires step { AreInStep (course_of plan.now) build.old publisher.old }
-    requires can { CanAsk (course_of plan.now) 4 1 seat.old }
-    ensures { CanAsk (course_of plan.now) 4 1 seat.new }
-{
-    let first = is_answered(plan, seat, 12, 1, near(144, 0));
-    let second = published(rt, alloc, plan, build, publisher);
-    let third = published(rt, alloc, plan, build, publisher);
-    let told = is_told(plan, seat, second, third);
-    let after = publish_next(rt, alloc, plan, build, publisher).expect(rt, "memory");
-    first && told && after.is_none()
-}
+impl<'p> Model for OneCaller<'p> {
+    ghost use Rattle.versions.specs.Course.{Course, course_of};
+    ghost use Rattle.live_tests.specs.Seated.{IsSeated};
 
-// Whether a caller that is told of none of the batches 2 and 3 of the line never goes back.
-fn told_of_none<'p, R: Threads + Wait + Sync + Abort>(
-    rt: &R,
-    alloc: Global,
-    plan: &Plan<'_>,
-    build: &mut Vamana<'_>,
-    publisher: &mut Publisher<'p>,
-    seat: &mut Seat<'p>,
-) -> bool
-    requires dim { dim_of plan.now.points.now.vectors ≡ 1 }
-    requires step { AreInStep (course_of plan.now) build.old publisher.old }
-    requires can { CanAsk (course_of plan.now) 4 1 seat.old }
-    ensures { CanAsk (course_of plan.now) 4 1 seat.new }
-{
-    let first = never_goes_back(plan, seat, 1);
-    let _second = published(rt, alloc, plan, build, publisher);
-    let then = never_goes_back(plan, seat, 2);
-    let _third = published(rt, alloc, plan, build, publisher);
-    let last = never_goes_back(plan, seat, 3);
-    first && then && last && (seat.answered(), seat.refused()) == (3, 0)
-}
+    ghost Value = { Course };
 
-// Publishes all batches that are left, of which there is one, and returns a note of the last.
-fn published_last<'p, R: Threads + Wait + Sync + Abort>(
-    rt: &R,
-    alloc: Global,
-    plan: &Plan<'_>,
-    build: &mut Vamana<'_>,
-    publisher: &mut Publisher<'p>,
-) -> BatchNote<'p>
-    requires { AreInStep (course_of plan.now) build.old publisher.old }
-    ensures { result.course ≡ course_of plan.now }
-{
-    let mut last = published(rt, alloc, plan, build, publisher);
-    for _ in 2..build.total() {
-        last = published(rt, alloc, plan, build, publisher);
-    }
-    last
-}
+    ghost view = { λ x. course_of x.plan.now };
 
-// Whether a caller is told of the sixth batch of the line, which has three in each of two passes, and answered in it.
-fn told_of_the_second_pass<'p, R: Threads + Wait + Sync + Abort>(
-    rt: &R,
-    alloc: Global,
-    plan: &Plan<'_>,
-    build: &mut Vamana<'_>,
-    publisher: &mut Publisher<'p>,
-    seat: &mut Seat<'p>,
-) -> bool
-    requires dim { dim_of plan.now.points.now.vectors ≡ 1 }
-    requires step { AreInStep (course_of plan.now) build.old publisher.old }
-    requires can { CanAsk (course_of plan.now) 4 1 seat.old }
-    ensures { CanAsk (course_of plan.now) 4 1 seat.new }
-{
-    let first = is_answered(plan, seat, 12, 1, near(144, 0));
-    let last = published_last(rt, alloc, plan, build, publisher);
-    let sixth = last.batch() == 6;
-    seat.told(plan, last, 4, 1);
-    let near_one = is_answered(plan, seat, 12, 6, near(4, 1));
-    let at_three = is_answered(plan, seat, 30, 6, near(0, 3));
-    first && sixth && near_one && at_three
+    ghost invariant = { λ x. IsSeated (course_of x.plan.now) x.build x.publisher x.seat };
 }
 
 // What is published of the line, and what the caller is told of it.
@@ -129,43 +43,126 @@ enum Telling {
     OfTheSecondPass,
 }
 
-// Whether a caller is answered so.
-fn is_told_so<'p, R: Threads + Wait + Sync + Abort>(
-    rt: &R,
-    alloc: Global,
-    plan: &Plan<'_>,
-    telling: Telling,
-    build: &mut Vamana<'_>,
-    publisher: &mut Publisher<'p>,
-    seat: &mut Seat<'p>,
-) -> bool
-    requires dim { dim_of plan.now.points.now.vectors ≡ 1 }
-    requires step { AreInStep (course_of plan.now) build.old publisher.old }
-    requires can { CanAsk (course_of plan.now) 4 1 seat.old }
-    ensures { CanAsk (course_of plan.now) 4 1 seat.new }
-{
-    match telling {
-        Telling::Nothing => { is_answered(plan, seat, 12, 1, near(144, 0)) && seat.seen() == 1 }
-        Telling::OfTheLast => told_of_the_last(rt, alloc, plan, build, publisher, seat),
-        Telling::OfNone => told_of_none(rt, alloc, plan, build, publisher, seat),
-        Telling::OfTheSecondPass => told_of_the_second_pass(
-            rt, alloc, plan, build, publisher, seat,
-        ),
+impl<'p> OneCaller<'p> {
+    fn new<R: Threads + Wait + Sync + Abort>(
+        rt: &R,
+        alloc: Global,
+        plan: &'p Plan<'p>,
+    ) -> Result<OneCaller<'p>, NoMemory>
+        requires { dim_of plan.now.points.now.vectors ≡ 1 }
+    {
+        let (build, publisher, mut callers) = opened(rt, alloc, plan, 1)?;
+        let caller = callers.pop().expect(rt, "a caller");
+        let seat = Seat::new(alloc, plan, caller, 4, 1).expect(rt, "memory");
+        Ok(OneCaller {
+            plan,
+            build,
+            publisher,
+            seat,
+        })
     }
-}
 
-// The seat of the only caller.
-fn seated<'p>(
-    rt: &impl Abort,
-    alloc: Global,
-    plan: &Plan<'_>,
-    mut callers: Vec<Caller<'p>>,
-) -> Seat<'p>
-    requires { All (λ x. x ≡ starting (course_of plan.now)) callers.items }
-    ensures { CanAsk (course_of plan.now) 4 1 result }
-{
-    let caller = callers.pop().expect(rt, "a caller");
-    Seat::new(alloc, plan, caller, 4, 1).expect(rt, "memory")
+    // Publishes the next batch, and returns a note of it; None where all batches are in.
+    fn publish<R: Threads + Wait + Sync + Abort>(
+        &mut self,
+        rt: &R,
+        alloc: Global,
+    ) -> Option<BatchNote<'p>>
+        ensures same { self.new ≡ self.old }
+        ensures note { IfSome result (λ n. n.course ≡ self.old) }
+    {
+        publish_next(rt, alloc, self.plan, &mut self.build, &mut self.publisher).expect(
+            rt, "memory",
+        )
+    }
+
+    // Publishes all batches that are left, of which there is one, and returns a note of the last.
+    fn published_last<R: Threads + Wait + Sync + Abort>(
+        &mut self,
+        rt: &R,
+        alloc: Global,
+    ) -> BatchNote<'p>
+        ensures same { self.new ≡ self.old }
+        ensures note { result.course ≡ self.old }
+    {
+        let total = self.build.total();
+        let mut last = self.publish(rt, alloc).expect(rt, "a batch");
+        for _ in 2..total {
+            last = self.publish(rt, alloc).expect(rt, "a batch");
+        }
+        last
+    }
+
+    // Whether the caller is told of the third batch of the line and answered in it, and no batch is left then.
+    fn told_of_the_last<R: Threads + Wait + Sync + Abort>(
+        &mut self,
+        rt: &R,
+        alloc: Global,
+    ) -> bool {
+        let first = is_answered(self.plan, &mut self.seat, 12, 1, near(144, 0));
+        let second = self.publish(rt, alloc).expect(rt, "a batch");
+        let third = self.publish(rt, alloc).expect(rt, "a batch");
+        let told = is_told(self.plan, &mut self.seat, second, third);
+        let after = self.publish(rt, alloc);
+        first && told && after.is_none()
+    }
+
+    // Whether the caller, told of none of the batches 2 and 3 of the line, never goes back.
+    fn told_of_none<R: Threads + Wait + Sync + Abort>(&mut self, rt: &R, alloc: Global) -> bool {
+        let first = never_goes_back(self.plan, &mut self.seat, 1);
+        let _second = self.publish(rt, alloc).expect(rt, "a batch");
+        let then = never_goes_back(self.plan, &mut self.seat, 2);
+        let _third = self.publish(rt, alloc).expect(rt, "a batch");
+        let last = never_goes_back(self.plan, &mut self.seat, 3);
+        first && then && last && (self.seat.answered(), self.seat.refused()) == (3, 0)
+    }
+
+    // Whether the caller is told of the sixth batch of the line, which has three in each of two passes, and answered in it.
+    fn told_of_the_second_pass<R: Threads + Wait + Sync + Abort>(
+        &mut self,
+        rt: &R,
+        alloc: Global,
+    ) -> bool {
+        let first = is_answered(self.plan, &mut self.seat, 12, 1, near(144, 0));
+        let last = self.published_last(rt, alloc);
+        let sixth = last.batch() == 6;
+        self.seat.told(self.plan, last, 4, 1);
+        let near_one = is_answered(self.plan, &mut self.seat, 12, 6, near(4, 1));
+        let at_three = is_answered(self.plan, &mut self.seat, 30, 6, near(0, 3));
+        first && sixth && near_one && at_three
+    }
+
+    // Whether the caller is told nothing and answered in the first batch.
+    fn told_nothing(&mut self) -> bool {
+        is_answered(self.plan, &mut self.seat, 12, 1, near(144, 0)) && self.seat.seen() == 1
+    }
+
+    // Whether the caller is answered so.
+    fn is_told_so<R: Threads + Wait + Sync + Abort>(
+        &mut self,
+        rt: &R,
+        alloc: Global,
+        telling: Telling,
+    ) -> bool {
+        match telling {
+            Telling::Nothing => self.told_nothing(),
+            Telling::OfTheLast => self.told_of_the_last(rt, alloc),
+            Telling::OfNone => self.told_of_none(rt, alloc),
+            Telling::OfTheSecondPass => self.told_of_the_second_pass(rt, alloc),
+        }
+    }
+
+    // Whether the caller is refused after the end.
+    fn is_refused_at_the_end<R: Wait>(self, rt: &R) -> bool {
+        let OneCaller {
+            plan,
+            build: _build,
+            publisher,
+            mut seat,
+        } = self;
+        publisher.end(rt);
+        is_refused_then(plan, &mut seat)
+    }
 }
 
 // Whether the only caller of a plan is answered so, and refused after the end.
@@ -177,19 +174,10 @@ fn goes_by<R: Threads + Wait + Sync + Abort>(
 ) -> Result<bool, NoMemory>
     requires dim { dim_of plan.now.points.now.vectors ≡ 1 }
 {
-    let (mut build, mut publisher, callers) = opened(rt, alloc, plan, 1)?;
-    let mut seat = seated(rt, alloc, plan, callers);
-    let told = is_told_so(
-        rt,
-        alloc,
-        plan,
-        telling,
-        &mut build,
-        &mut publisher,
-        &mut seat,
-    );
-    publisher.end(rt);
-    Ok(told && is_refused_then(plan, &mut seat))
+    let mut caller = OneCaller::new(rt, alloc, plan)?;
+    let told = caller.is_told_so(rt, alloc, telling);
+    let refused = caller.is_refused_at_the_end(rt);
+    Ok(told && refused)
 }
 
 // The same of the line in so many passes.
