@@ -50,96 +50,59 @@ fn numbers_of(settings: &Settings) -> [u32; 8] {
     ]
 }
 
-/// Whether clap reads these words as this command, with this kind of index, these elements, this cap and these numbers.
-fn are_read(
-    alloc: Global,
-    words: &[&str],
-    over: Over,
-    kind: Kind,
-    element: Element,
-    cap: Option<u32>,
-    numbers: [u32; 8],
-) -> bool {
+/// A kind of index, its elements, and a cap.
+type Chosen = (Kind, Element, Option<u32>);
+
+/// Whether clap reads these words as this command, with these choices and these numbers.
+fn are_read(alloc: Global, words: &[&str], over: Over, chosen: Chosen, numbers: &[u32; 8]) -> bool {
     let Some(parsed) = read_twice(alloc, words) else {
         return false;
     };
     let request = parsed.request();
     let settings = &request.settings;
     is_over(&request, over)
-        && settings.kind == kind
-        && settings.element == element
-        && settings.cap == cap
-        && numbers_of(settings) == numbers
+        && (settings.kind, settings.element, settings.cap) == chosen
+        && numbers_of(settings) == *numbers
 }
 
-#[test]
-fn odd_file_names_and_settings_of_a_build_are_read_by_clap(rt: HostRuntime) {
-    let words = ["build", "--cap", "007", "help", "a=b c", "--alpha=5/4"];
-    let over = (Verb::Build, "help", "a=b c", "");
-    let numbers = [64, 5, 4, 4, 15, 64, 10, 2];
-    assert!(rt;
-        are_read(
-            rt.alloc(),
-            &words,
-            over,
-            Kind::Vamana,
-            Element::U8,
-            Some(7),
-            numbers
-        )
-    );
-}
+/// What each case shows, its words, and what they should be read as.
+static CASES: [(&str, &[&str], Over, Chosen, [u32; 8]); 4] = [
+    (
+        "odd file names and settings of a build",
+        &["build", "--cap", "007", "help", "a=b c", "--alpha=5/4"],
+        (Verb::Build, "help", "a=b c", ""),
+        (Kind::Vamana, Element::U8, Some(7)),
+        [64, 5, 4, 4, 15, 64, 10, 2],
+    ),
+    (
+        "a build of layers",
+        &["build", "x", "--bits=2", "y", "--kind", "hnsw"],
+        (Verb::Build, "x", "y", ""),
+        (Kind::Hnsw, Element::U8, None),
+        [16, 12, 10, 2, 15, 64, 10, 2],
+    ),
+    (
+        "a query named like commands",
+        &["query", "build", "query", "--k=3", "x", "--type", "i8"],
+        (Verb::Query, "build", "query", "x"),
+        (Kind::Vamana, Element::I8, None),
+        [64, 12, 10, 4, 15, 64, 3, 2],
+    ),
+    (
+        "a session named like its command",
+        &["live", "--callers", "16", "live", "--cap=2", "a b", "x"],
+        (Verb::Live, "live", "a b", "x"),
+        (Kind::Vamana, Element::U8, Some(2)),
+        [64, 12, 10, 4, 15, 64, 10, 16],
+    ),
+];
 
 #[test]
-fn a_build_of_layers_is_read_by_clap(rt: HostRuntime) {
-    let words = ["build", "x", "--bits=2", "y", "--kind", "hnsw"];
-    let over = (Verb::Build, "x", "y", "");
-    let numbers = [16, 12, 10, 2, 15, 64, 10, 2];
-    assert!(rt;
-        are_read(
-            rt.alloc(),
-            &words,
-            over,
-            Kind::Hnsw,
-            Element::U8,
-            None,
-            numbers
-        )
-    );
-}
-
-#[test]
-fn a_query_named_like_commands_is_read_by_clap(rt: HostRuntime) {
-    let words = ["query", "build", "query", "--k=3", "x", "--type", "i8"];
-    let over = (Verb::Query, "build", "query", "x");
-    let numbers = [64, 12, 10, 4, 15, 64, 3, 2];
-    assert!(rt;
-        are_read(
-            rt.alloc(),
-            &words,
-            over,
-            Kind::Vamana,
-            Element::I8,
-            None,
-            numbers
-        )
-    );
-}
-
-#[test]
-fn a_session_named_like_its_command_is_read_by_clap(rt: HostRuntime) {
-    let words = ["live", "--callers", "16", "live", "--cap=2", "a b", "x"];
-    let over = (Verb::Live, "live", "a b", "x");
-    let numbers = [64, 12, 10, 4, 15, 64, 10, 16];
-    assert!(rt;
-        are_read(
-            rt.alloc(),
-            &words,
-            over,
-            Kind::Vamana,
-            Element::U8,
-            Some(2),
-            numbers
-        )
-    );
+fn odd_names_and_settings_of_builds_a_query_and_a_session_are_read_by_clap(rt: HostRuntime) {
+    for (shown, words, over, chosen, numbers) in &CASES {
+        assert!(rt;
+            are_read(rt.alloc(), *words, *over, *chosen, numbers),
+            "{shown}"
+        );
+    }
 }
