@@ -2,8 +2,9 @@
 //! limit, to one past it, and to the greatest number.
 use crate::indexes::{FOUR_POINTS, TWO_LAYERS, fault_of, is_malformed};
 use crate::layers::THREE_LAYERS;
+use crate::replaced::{Broken, Over, breaks, exceeds, first_unbroken, is_read_with};
 use ann_shelf::Quantity;
-use graph_files::{IndexFault, IndexRule};
+use graph_files::IndexRule;
 use std::alloc::Global;
 
 /// An index of lists: kind 3, rows [1], [0, 2], [1, 3] and [2].
@@ -16,11 +17,8 @@ pub(crate) const IN_LISTS: [u8; 72] = [
 /// The greatest number of a word.
 const MOST: u32 = 4_294_967_295;
 
-/// A word that is replaced, and the place and the rule of the file's first fault.
-type Broken = (usize, u32, u64, IndexRule);
-
 /// In files of every kind.
-const IN_EVERY_KIND: [Broken; 15] = [
+static IN_EVERY_KIND: [Broken; 15] = [
     (0, 0, 0, IndexRule::Magic),
     (0, MOST, 0, IndexRule::Magic),
     (4, 0, 4, IndexRule::Version),
@@ -39,7 +37,7 @@ const IN_EVERY_KIND: [Broken; 15] = [
 ];
 
 /// In files of one layer, the rows of which begin with [1] and [0, 2].
-const IN_ONE_LAYER: [Broken; 5] = [
+static IN_ONE_LAYER: [Broken; 5] = [
     (28, 2, 28, IndexRule::Layers),
     (40, 3, 40, IndexRule::Degree),
     (48, 0, 48, IndexRule::DoubleEdge),
@@ -48,7 +46,7 @@ const IN_ONE_LAYER: [Broken; 5] = [
 ];
 
 /// In the file of two layers.
-const IN_TWO_LAYERS: [Broken; 6] = [
+static IN_TWO_LAYERS: [Broken; 6] = [
     (24, 0, 68, IndexRule::LayerIds),
     (24, 3, 68, IndexRule::LayerIds),
     (28, 16, 80, IndexRule::Short),
@@ -58,7 +56,7 @@ const IN_TWO_LAYERS: [Broken; 6] = [
 ];
 
 /// A word over its limit, in files of every kind.
-const OVER: [(usize, u32, Quantity, u64); 4] = [
+static OVER: [Over; 4] = [
     (12, 4_194_305, Quantity::Count, 4_194_304),
     (12, MOST, Quantity::Count, 4_194_304),
     (16, 2_049, Quantity::Dim, 2_048),
@@ -66,7 +64,7 @@ const OVER: [(usize, u32, Quantity, u64); 4] = [
 ];
 
 /// Words that a file of one layer may have.
-const ALLOWED: [(usize, u32); 7] = [
+static ALLOWED: [(usize, u32); 7] = [
     (4, 1),
     (8, 3),
     (16, 2_048),
@@ -75,47 +73,6 @@ const ALLOWED: [(usize, u32); 7] = [
     (24, 3),
     (28, 1),
 ];
-
-/// A copy of a file of at most 80 bytes with a word replaced.
-fn with_word(file: &[u8], place: usize, word: u32) -> [u8; 80] {
-    let mut copy = [0u8; 80];
-    for (cell, byte) in copy.iter_mut().zip(file) {
-        *cell = *byte;
-    }
-    for (cell, byte) in copy.iter_mut().skip(place).zip(word.to_le_bytes()) {
-        *cell = byte;
-    }
-    copy
-}
-
-/// Whether a file with a word replaced is refused by a rule at a place.
-fn breaks(alloc: Global, file: &[u8], at: usize, word: u32, place: u64, rule: IndexRule) -> bool {
-    match with_word(file, at, word).get(..file.len()) {
-        Some(whole) => is_malformed(alloc, whole, place, rule),
-        None => false,
-    }
-}
-
-/// Whether a file with a word replaced is refused since that is over the limit of a quantity.
-fn exceeds(alloc: Global, file: &[u8], at: usize, word: u32, name: Quantity, limit: u64) -> bool {
-    let wanted = Some(IndexFault::TooLarge {
-        name,
-        value: u64::from(word),
-        limit,
-    });
-    match with_word(file, at, word).get(..file.len()) {
-        Some(whole) => fault_of(alloc, whole) == wanted,
-        None => false,
-    }
-}
-
-/// Whether a file with a word replaced is read.
-fn is_read_with(alloc: Global, file: &[u8], at: usize, word: u32) -> bool {
-    match with_word(file, at, word).get(..file.len()) {
-        Some(whole) => fault_of(alloc, whole).is_none(),
-        None => false,
-    }
-}
 
 /// Whether the first bytes of a file are refused where they end.
 fn is_cut_at(alloc: Global, file: &[u8], cut: usize) -> bool {
@@ -172,35 +129,22 @@ fn each_word_of_a_header_is_refused_or_read(rt: HostRuntime) {
         (TWO_LAYERS.as_slice(), IN_TWO_LAYERS.as_slice()),
     ];
     for (file, table) in rows {
-        for (at, word, place, rule) in table {
-            assert!(rt;
-                breaks(rt.alloc(), file, *at, *word, *place, *rule),
-                "{word} at {at}"
-            );
-        }
+        let missed = first_unbroken(rt.alloc(), file, table);
+        assert!(rt; missed.is_none(), "{missed:?}");
     }
 }
 
 /// Whether a file is read with this degree, and refused with a greater one, and with more rows than are there.
 fn keeps_its_degree(alloc: Global, file: &[u8], degree: u32) -> bool {
     let limit = u64::from(degree);
+    let end = file.len() as u64;
     exceeds(
         alloc,
         file,
-        20,
-        degree.wrapping_add(1),
-        Quantity::Degree,
-        limit,
-    ) && exceeds(alloc, file, 20, MOST, Quantity::Degree, limit)
+        (20, degree.wrapping_add(1), Quantity::Degree, limit),
+    ) && exceeds(alloc, file, (20, MOST, Quantity::Degree, limit))
         && is_read_with(alloc, file, 20, degree)
-        && breaks(
-            alloc,
-            file,
-            12,
-            4_194_304,
-            file.len() as u64,
-            IndexRule::Short,
-        )
+        && breaks(alloc, file, (12, 4_194_304, end, IndexRule::Short))
 }
 
 #[test]
@@ -212,11 +156,8 @@ fn each_limit_is_kept(rt: HostRuntime) {
         (IN_LISTS.as_slice(), 128),
     ];
     for (file, degree) in files {
-        for (at, word, name, limit) in OVER {
-            assert!(rt;
-                exceeds(rt.alloc(), file, at, word, name, limit),
-                "{word} at {at}"
-            );
+        for over in &OVER {
+            assert!(rt; exceeds(rt.alloc(), file, *over), "{over:?}");
         }
         assert!(rt; keeps_its_degree(rt.alloc(), file, degree));
     }
@@ -225,8 +166,11 @@ fn each_limit_is_kept(rt: HostRuntime) {
 #[test]
 fn each_limit_is_reached(rt: HostRuntime) {
     for file in [FOUR_POINTS.as_slice(), IN_LISTS.as_slice()] {
-        for (at, word) in ALLOWED {
-            assert!(rt; is_read_with(rt.alloc(), file, at, word), "{word} at {at}");
+        for (at, word) in &ALLOWED {
+            assert!(rt;
+                is_read_with(rt.alloc(), file, *at, *word),
+                "{word} at {at}"
+            );
         }
     }
 }

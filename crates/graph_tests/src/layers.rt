@@ -1,7 +1,7 @@
 //! Files of indexes with further layers.
-use crate::indexes::{FOUR_POINTS, TWO_LAYERS, fault_of, is_malformed, is_written_back};
+use crate::indexes::{FOUR_POINTS, TWO_LAYERS, fault_of, is_written_back};
+use crate::replaced::{Broken, first_unbroken};
 use graph_files::{IndexRule, Kind};
-use std::alloc::Global;
 
 // Layer 1 holds 1 and 3, which are in each other's rows; layer 2 holds 1.
 pub(crate) const THREE_LAYERS: [u8; 108] = [
@@ -11,10 +11,7 @@ pub(crate) const THREE_LAYERS: [u8; 108] = [
     0, 0, 1, 0, 0, 0, 1, 0, 0, 0, 0, 0, 0, 0,
 ];
 
-// A file with one byte changed, and the place and the rule of its first fault.
-type Broken = (usize, u8, u64, IndexRule);
-
-const TWO_BROKEN: [Broken; 15] = [
+static TWO_BROKEN: [Broken; 15] = [
     (8, 1, 28, IndexRule::Layers),
     (8, 3, 28, IndexRule::Layers),
     (20, 0, 20, IndexRule::Degree),
@@ -32,7 +29,7 @@ const TWO_BROKEN: [Broken; 15] = [
     (76, 2, 76, IndexRule::Degree),
 ];
 
-const THREE_BROKEN: [Broken; 13] = [
+static THREE_BROKEN: [Broken; 13] = [
     (28, 2, 96, IndexRule::Trailing),
     (72, 2, 68, IndexRule::LayerIds),
     (72, 3, 76, IndexRule::LayerIds),
@@ -62,33 +59,10 @@ fn a_layered_file_may_have_one_layer(rt: HostRuntime) {
     assert_eq!(rt; fault_of(rt.alloc(), &bytes), None);
 }
 
-// Whether a file with this byte set is refused by a rule at a place.
-fn breaks(alloc: Global, file: &mut [u8], broken: Broken) -> bool {
-    let (at, byte, place, rule) = broken;
-    if let Some(cell) = file.get_mut(at) {
-        *cell = byte;
-    }
-    is_malformed(alloc, file, place, rule)
-}
-
 #[test]
 fn a_broken_rule_of_a_layer_is_named_with_its_place(rt: HostRuntime) {
-    for broken in TWO_BROKEN {
-        let mut bytes = TWO_LAYERS;
-        assert!(rt;
-            breaks(rt.alloc(), &mut bytes, broken),
-            "{} at {}",
-            broken.1,
-            broken.0
-        );
-    }
-    for broken in THREE_BROKEN {
-        let mut bytes = THREE_LAYERS;
-        assert!(rt;
-            breaks(rt.alloc(), &mut bytes, broken),
-            "{} at {}",
-            broken.1,
-            broken.0
-        );
-    }
+    let missed = first_unbroken(rt.alloc(), &TWO_LAYERS, &TWO_BROKEN);
+    assert!(rt; missed.is_none(), "{missed:?}");
+    let missed = first_unbroken(rt.alloc(), &THREE_LAYERS, &THREE_BROKEN);
+    assert!(rt; missed.is_none(), "{missed:?}");
 }

@@ -10,6 +10,8 @@ mod indexes;
 #[cfg(test)]
 mod layers;
 #[cfg(test)]
+mod replaced;
+#[cfg(test)]
 mod rows;
 #[cfg(test)]
 mod stamps;
