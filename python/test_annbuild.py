@@ -29,6 +29,11 @@ class Files(unittest.TestCase):
             call(*args)
         self.assertTrue(str(raised.exception).endswith(message), str(raised.exception))
 
+    def refused_with(self, data, place, word, message):
+        """An index file with a word replaced is refused with this message."""
+        data[place : place + 4] = word.to_bytes(4, "little")
+        self.refused(message, annbuild.load_index, self.written("broken", bytes(data)))
+
 
 class Points(Files):
     def test_points_are_written_as_a_header_and_bytes(self):
@@ -125,9 +130,7 @@ class Indexes(Files):
             (36, 0, "at byte 36: self edge"),
             (48, 0, "at byte 48: double edge"),
         ):
-            data = self.four()
-            data[place : place + 4] = word.to_bytes(4, "little")
-            self.refused(told, annbuild.load_index, self.written("broken", bytes(data)))
+            self.refused_with(self.four(), place, word, told)
         whole = bytes(self.four())
         self.refused(f"at byte {len(whole) - 1}: short", annbuild.load_index, self.written("cut", whole[:-1]))
         self.refused(f"at byte {len(whole)}: trailing", annbuild.load_index, self.written("long", whole + b"\0"))
@@ -176,9 +179,7 @@ class Stamps(Files):
             (96, 1, "at byte 96: stamp"),
             (136, 3, "at byte 136: degree"),
         ):
-            data = self.stamped()
-            data[place : place + 4] = word.to_bytes(4, "little")
-            self.refused(told, annbuild.load_index, self.written("broken", bytes(data)))
+            self.refused_with(self.stamped(), place, word, told)
         for size in (32, 87, 95, 103, 135, 136, 171):
             cut = self.written("cut", bytes(self.stamped()[:size]))
             self.refused(f"at byte {size}: short", annbuild.load_index, cut)
