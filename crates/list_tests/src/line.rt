@@ -5,7 +5,7 @@ ghost use Rattle.neighbour_lists.specs.Held.{BelongTo};
 use ann_defs::{Alpha, Kind, StartKind};
 use ann_shelf::{FreeGate, NoMemory};
 use bin_files::Points;
-use graph_rows::{FlatGraph, Rows};
+use graph_rows::{FlatGraph, Index, Rows};
 use neighbour_lists::Lists;
 use nn_descent::{NndSettings, build_nnd, search_graph};
 use pivot_trees::Tree;
@@ -112,33 +112,25 @@ fn lists_line<R: Threads + Sync, P: Rounds>(
     Ok(leads(rt, alloc, points, &lists, pool)? && stays)
 }
 
-// Whether the whole build over a pool gives the index of the line.
-fn builds_line<R: Threads + Sync, P: Rounds>(
-    rt: &R,
-    alloc: Global,
-    points: &Points,
-    pool: &mut P,
-) -> Result<bool, NoMemory>
-    requires { length points.now.vectors ≡ 4 }
-{
-    let index = build_nnd(rt, alloc, points, SETTINGS, pool, &FreeGate)?;
+// Whether this is the index of the line.
+fn is_index(index: &Index) -> bool {
     let sizes = (index.count, index.dim, index.degree, index.start);
-    Ok(
-        matches!(index.kind, Kind::Nnd)
-            && index.upper.is_empty()
-            && sizes == (4, 1, 2, 0)
-            && has_rows(&index.base, &ROWS),
-    )
+    matches!(index.kind, Kind::Nnd)
+        && index.upper.is_empty()
+        && sizes == (4, 1, 2, 0)
+        && has_rows(&index.base, &ROWS)
 }
 
-// Whether both are so over a pool.
+// Whether these and the whole build over a pool are so.
 fn is_line<R: Threads + Sync, P: Rounds>(
     rt: &R,
     alloc: Global,
     pool: &mut P,
 ) -> Result<bool, NoMemory> {
     let points = line(alloc)?;
-    Ok(lists_line(rt, alloc, &points, pool)? && builds_line(rt, alloc, &points, pool)?)
+    let lists = lists_line(rt, alloc, &points, pool)?;
+    let index = build_nnd(rt, alloc, &points, SETTINGS, pool, &FreeGate)?;
+    Ok(lists && is_index(&index))
 }
 
 #[test]

@@ -60,9 +60,8 @@ fn each_pool_gives_the_leaves_of_small_trees(rt: HostRuntime) -> Result<(), Fail
 
 #[test]
 fn equal_points_are_parted_by_halves(rt: HostRuntime) -> Result<(), Fail> {
-    let alloc = rt.alloc();
-    let five = five(alloc)?;
+    let five = five(rt.alloc())?;
     let mut serial = SerialRounds::new();
-    assert!(rt; has_leaves(&rt, alloc, &five, 0, 0, &mut serial, &LEAVES_OF_FIVE)?);
+    assert!(rt; has_leaves(&rt, rt.alloc(), &five, 0, 0, &mut serial, &LEAVES_OF_FIVE)?);
     Ok(())
 }
