@@ -6,6 +6,8 @@ mod digests;
 #[cfg(test)]
 mod folders;
 #[cfg(test)]
+mod names;
+#[cfg(test)]
 mod point_files;
 #[cfg(test)]
 mod shelves;

@@ -91,7 +91,7 @@ fn points_are_the_same_by_element_and_numbers(rt: HostRuntime) -> Result<(), Fai
 }
 
 // Files, and the place and the rule of their first fault.
-const MALFORMED: [(&[u8], u64, PointsRule); 8] = [
+static MALFORMED: [(&[u8], u64, PointsRule); 8] = [
     (&[0, 0, 0, 0, 1, 0, 0, 0], 0, PointsRule::ZeroCount),
     (&[1, 0, 0, 0, 0, 0, 0, 0], 4, PointsRule::ZeroDim),
     (&[1, 0, 0, 0, 0, 8, 0, 0, 1], 9, PointsRule::ShortBody),
@@ -111,34 +111,38 @@ const MALFORMED: [(&[u8], u64, PointsRule); 8] = [
     ),
 ];
 
-// Headers with a quantity over its limit.
-const OVER: [([u8; 8], Quantity, u64, u64); 5] = [
+// The count and the dim of headers with a quantity over its limit, and the quantity with its value and its limit.
+static OVER: [(u32, u32, Quantity, u64, u64); 5] = [
+    (4_194_305, 1, Quantity::Count, 4_194_305, 4_194_304),
     (
-        [1, 0, 64, 0, 1, 0, 0, 0],
-        Quantity::Count,
-        4_194_305,
-        4_194_304,
-    ),
-    (
-        [255, 255, 255, 255, 255, 255, 255, 255],
+        u32::MAX,
+        u32::MAX,
         Quantity::Count,
         4_294_967_295,
         4_194_304,
     ),
-    ([1, 0, 0, 0, 1, 8, 0, 0], Quantity::Dim, 2_049, 2_048),
+    (1, 2_049, Quantity::Dim, 2_049, 2_048),
+    (1, u32::MAX, Quantity::Dim, 4_294_967_295, 2_048),
     (
-        [1, 0, 0, 0, 255, 255, 255, 255],
-        Quantity::Dim,
-        4_294_967_295,
-        2_048,
-    ),
-    (
-        [0, 0, 64, 0, 1, 1, 0, 0],
+        4_194_304,
+        257,
         Quantity::Cells,
         1_077_936_128,
         1_073_741_824,
     ),
 ];
+
+// A header of this count and dim.
+fn header(count: u32, dim: u32) -> [u8; 8] {
+    let mut bytes = [0u8; 8];
+    for (cell, byte) in bytes.iter_mut().zip(count.to_le_bytes()) {
+        *cell = byte;
+    }
+    for (cell, byte) in bytes.iter_mut().skip(4).zip(dim.to_le_bytes()) {
+        *cell = byte;
+    }
+    bytes
+}
 
 // Whether a file of points is refused for this fault.
 fn is_refused(alloc: Global, bytes: &[u8], fault: PointsFault) -> Result<bool, NoMemory> {
@@ -149,13 +153,14 @@ fn is_refused(alloc: Global, bytes: &[u8], fault: PointsFault) -> Result<bool, N
 
 #[test]
 fn a_file_is_judged_by_its_first_broken_rule(rt: HostRuntime) -> Result<(), Fail> {
-    for (bytes, place, rule) in MALFORMED {
-        let fault = PointsFault::Malformed { place, rule };
-        assert!(rt; is_refused(rt.alloc(), bytes, fault)?);
+    for (bytes, place, rule) in &MALFORMED {
+        let (place, rule) = (*place, *rule);
+        assert!(rt; is_refused(rt.alloc(), bytes, PointsFault::Malformed { place, rule })?);
     }
-    for (bytes, name, value, limit) in OVER {
+    for (count, dim, name, value, limit) in &OVER {
+        let (name, value, limit) = (*name, *value, *limit);
         let fault = PointsFault::TooLarge { name, value, limit };
-        assert!(rt; is_refused(rt.alloc(), &bytes, fault)?);
+        assert!(rt; is_refused(rt.alloc(), &header(*count, *dim), fault)?);
     }
     Ok(())
 }
