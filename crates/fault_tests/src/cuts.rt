@@ -7,19 +7,36 @@ use std::sync::Wait;
 use std::thread::Threads;
 use top_calls::{FOUR, FOUR_BY_FOUR, FOUR_IN_TWO_LAYERS, NONE, call};
 
-/// Whether a check of these files ends with status 5, since one breaks this rule at this place.
+/// Which file is cut, the length of its header, and the rules that a cut in the header and one behind it break.
+type Cut = (Role, usize, Rule, Rule);
+
+static OF_INDEX: Cut = (
+    Role::Index,
+    32,
+    Rule::Index(IndexRule::ShortHeader),
+    Rule::Index(IndexRule::Short),
+);
+
+static OF_POINTS: Cut = (
+    Role::Base,
+    8,
+    Rule::Points(PointsRule::ShortHeader),
+    Rule::Points(PointsRule::ShortBody),
+);
+
+/// Whether a check of these files ends with status 5, since one of them is cut here.
 fn is_malformed<R: Threads + Wait + Sync>(
     rt: &R,
     alloc: Global,
     files: &[(&str, &[u8])],
-    file: Role,
-    place: usize,
-    rule: Rule,
+    of: &Cut,
+    cut: usize,
 ) -> bool {
+    let (file, header, in_header, behind) = *of;
     let fault = Fault::Malformed {
         file,
-        place: place as u64,
-        rule,
+        place: cut as u64,
+        rule: if cut < header { in_header } else { behind },
     };
     match call(rt, alloc, "check pts ann", files, NONE) {
         Ok(ended) => ended.status.fault == Some(fault) && ended.status.code == 5,
@@ -30,25 +47,19 @@ fn is_malformed<R: Threads + Wait + Sync>(
 /// Whether an index that is cut here is refused where it ends.
 fn is_cut_index<R: Threads + Wait + Sync>(rt: &R, alloc: Global, cut: usize) -> bool {
     let index = FOUR_IN_TWO_LAYERS.get(..cut).unwrap_or(&[]);
-    let rule = if cut < 32 {
-        IndexRule::ShortHeader
-    } else {
-        IndexRule::Short
-    };
-    let files = [("pts", FOUR), ("ann", index)];
-    is_malformed(rt, alloc, &files, Role::Index, cut, Rule::Index(rule))
+    is_malformed(rt, alloc, &[("pts", FOUR), ("ann", index)], &OF_INDEX, cut)
 }
 
 /// Whether points that are cut here are refused where they end.
 fn are_cut_points<R: Threads + Wait + Sync>(rt: &R, alloc: Global, cut: usize) -> bool {
     let points = FOUR.get(..cut).unwrap_or(&[]);
-    let rule = if cut < 8 {
-        PointsRule::ShortHeader
-    } else {
-        PointsRule::ShortBody
-    };
-    let files = [("pts", points), ("ann", FOUR_BY_FOUR)];
-    is_malformed(rt, alloc, &files, Role::Base, cut, Rule::Points(rule))
+    is_malformed(
+        rt,
+        alloc,
+        &[("pts", points), ("ann", FOUR_BY_FOUR)],
+        &OF_POINTS,
+        cut,
+    )
 }
 
 #[test]
