@@ -1,8 +1,9 @@
 //! HNSW: a worked index of one layer, and 2,000 made points in four layers.
 use crate::made::{Wanted, assert_answers, assert_index};
 use crate::pools::SOME_POOLS;
+use crate::worked::{is_answered, is_built};
 use std::test::Fail;
-use top_calls::{FOUR, FOUR_IN_ONE_LAYER, NONE, call};
+use top_calls::FOUR_IN_ONE_LAYER;
 
 const WANTED: Wanted = Wanted {
     settings: "--kind hnsw --degree 16 --beam 64 --seed 1",
@@ -14,19 +15,9 @@ const WANTED: Wanted = Wanted {
 #[test]
 fn a_worked_index_of_one_layer_is_built_and_answers(rt: HostRuntime) {
     let words = "build pts ann --kind hnsw --order file --degree 1 --beam 4 --cap 4 --max-level 0";
-    let ended = call(&rt, rt.alloc(), words, &[("pts", FOUR)], NONE).expect(&rt, "memory");
-    assert_eq!(rt; ended.status.code, 0);
-    assert!(rt; ended.shelf.bytes("ann") == Some(FOUR_IN_ONE_LAYER));
     let line = b"built hnsw count 4 dim 1 degree 1 start 0 layers 1 edges 5\n".as_slice();
-    assert!(rt; ended.out.bytes() == line);
-    let words = "query pts ann ask --search 4 --k 2";
-    let files = [
-        ("pts", FOUR),
-        ("ann", FOUR_IN_ONE_LAYER),
-        ("ask", b"\x01\0\0\0\x01\0\0\0\x0c".as_slice()),
-    ];
-    let ended = call(&rt, rt.alloc(), words, &files, NONE).expect(&rt, "memory");
-    assert!(rt; ended.out.bytes() == b"0 1:4 2:64\n".as_slice());
+    assert!(rt; is_built(&rt, rt.alloc(), words, line, FOUR_IN_ONE_LAYER));
+    assert!(rt; is_answered(&rt, rt.alloc(), FOUR_IN_ONE_LAYER));
 }
 
 #[test]

@@ -11,3 +11,5 @@ mod made;
 mod pools;
 #[cfg(test)]
 mod vamana;
+#[cfg(test)]
+mod worked;

@@ -1,8 +1,9 @@
 //! Lists: the worked index of four points, and 2,000 made points.
 use crate::made::{Wanted, assert_answers, assert_index};
 use crate::pools::SOME_POOLS;
+use crate::worked::{is_answered, is_built, is_checked};
 use std::test::Fail;
-use top_calls::{FOUR, FOUR_IN_LISTS, NONE, call};
+use top_calls::FOUR_IN_LISTS;
 
 const WANTED: Wanted = Wanted {
     settings: "--kind nnd --degree 32 --seed 1",
@@ -15,22 +16,11 @@ const WANTED: Wanted = Wanted {
 fn the_worked_index_of_lists_is_built_and_answers(rt: HostRuntime) {
     let words =
         "build pts ann --kind nnd --start first --degree 2 --alpha 1/1 --list 2 --trees 1 --leaf 64 --rounds 1";
-    let ended = call(&rt, rt.alloc(), words, &[("pts", FOUR)], NONE).expect(&rt, "memory");
-    assert_eq!(rt; ended.status.code, 0);
-    assert!(rt; ended.shelf.bytes("ann") == Some(FOUR_IN_LISTS));
     let line = b"built nnd count 4 dim 1 degree 2 start 0 layers 1 edges 6\n".as_slice();
-    assert!(rt; ended.out.bytes() == line);
-    let files = [
-        ("pts", FOUR),
-        ("ann", FOUR_IN_LISTS),
-        ("ask", b"\x01\0\0\0\x01\0\0\0\x0c".as_slice()),
-    ];
-    let ended = call(&rt, rt.alloc(), "check pts ann", &files, NONE).expect(&rt, "memory");
+    assert!(rt; is_built(&rt, rt.alloc(), words, line, FOUR_IN_LISTS));
     let line = b"ok nnd count 4 dim 1 degree 2 start 0 layers 1 edges 6 longest 2\n".as_slice();
-    assert!(rt; ended.out.bytes() == line);
-    let words = "query pts ann ask --search 4 --k 2";
-    let ended = call(&rt, rt.alloc(), words, &files, NONE).expect(&rt, "memory");
-    assert!(rt; ended.out.bytes() == b"0 1:4 2:64\n".as_slice());
+    assert!(rt; is_checked(&rt, rt.alloc(), line, FOUR_IN_LISTS));
+    assert!(rt; is_answered(&rt, rt.alloc(), FOUR_IN_LISTS));
 }
 
 #[test]
