@@ -1,7 +1,6 @@
 //! Queries of a line of four points.
 ghost use Rattle.std.specs.Prelude.{◌≡◌, ◌<◌, ◌≤◌, IfOk, length};
 ghost use Rattle.std.specs.List.{All};
-ghost use Rattle.ann_defs.specs.Distance.{dim_of};
 
 use crate::line::{line, line_index, near};
 use ann_defs::Near;
@@ -54,30 +53,6 @@ fn are_answers(answers: &Answers, k: u32, count: u32, wanted: &[&[Near]]) -> boo
 }
 
 // Whether a round of these queries of the line, from one on, has so many answers, the first of them these.
-fn is_answered_of<R: Threads + Sync, P: Rounds>(
-    rt: &R,
-    alloc: Global,
-    pool: &mut P,
-    queries: &Points,
-    from: u32,
-    beam: u32,
-    k: u32,
-    count: u32,
-    wanted: &[&[Near]],
-) -> Result<bool, NoMemory>
-    requires from { from < length queries.now.vectors }
-    requires dim { dim_of queries.now.vectors ≡ 1 }
-    requires beam { beam ≤ 4 }
-    requires k { (1 ≤ k) × (k ≤ beam) }
-{
-    let points = line(alloc)?;
-    let index = line_index(alloc)?;
-    let batch = QueryBatch::new(&points, &index, queries, beam, k);
-    let answers = round_of(rt, alloc, pool, &batch, from)?;
-    Ok(are_answers(&answers, k, count, wanted))
-}
-
-// The same of queries that are given by their bytes.
 fn is_answered<R: Threads + Sync, P: Rounds>(
     rt: &R,
     alloc: Global,
@@ -93,11 +68,15 @@ fn is_answered<R: Threads + Sync, P: Rounds>(
     requires beam { beam ≤ 4 }
     requires k { (1 ≤ k) × (k ≤ beam) }
 {
-    let points = Points::from_bytes(1, queries.to_vec(alloc)?);
-    if from >= points.count() || points.dim() != 1 {
+    let queries = Points::from_bytes(1, queries.to_vec(alloc)?);
+    if from >= queries.count() || queries.dim() != 1 {
         return Ok(false);
     }
-    is_answered_of(rt, alloc, pool, &points, from, beam, k, count, wanted)
+    let points = line(alloc)?;
+    let index = line_index(alloc)?;
+    let batch = QueryBatch::new(&points, &index, &queries, beam, k);
+    let answers = round_of(rt, alloc, pool, &batch, from)?;
+    Ok(are_answers(&answers, k, count, wanted))
 }
 
 // The two nearest of 12 and of 30.
